@@ -1,0 +1,10 @@
+mod Forming
+mod Growing
+mod Judging
+mod Keeping
+mod Lawful
+mod Matched
+mod OneRule
+mod Pairs
+mod Picks
+mod Splitting

@@ -1,0 +1,104 @@
+// The prefixes met so far, in the order of their first appearance, each with the channels that hold its slots.
+ghost use mathlib.Core.Path.{_≡_};
+ghost use Prim.Native.Nat.{ℕ, _+_, _≤_, _<_};
+ghost use lib.ListN.{length, getD};
+ghost use Rattle.std.specs.Of.Vec.{vec-items, vec-len, vec-cap};
+ghost use Rattle.channel_rules.specs.Names.{Inside};
+ghost use Rattle.channel_rules.specs.Picks.{FirstAt};
+ghost use Rattle.channel_rules.specs.Triplets.{noChannel, Named, Suffixed, schemeIn};
+ghost use Rattle.channel_rules.specs.PrefixMap.{noKnown, putAt, stamped, knownBytes, Met};
+use crate::records::ChannelDescription;
+use crate::records::CompressorScheme;
+use crate::records::Rule;
+
+#[derive(Clone, Copy)]
+pub(crate) struct Slots {
+    pub(crate) r: Option<usize>,
+    pub(crate) g: Option<usize>,
+    pub(crate) b: Option<usize>,
+}
+
+// A prefix, by the first channel that has it.
+#[derive(Clone, Copy)]
+pub(crate) struct KnownPrefix {
+    pub(crate) first: usize,
+    pub(crate) slots: Slots,
+}
+
+impl Slots {
+    fn put(&mut self, slot: usize, index: usize)
+        ensures { λ _. ⌜ now (self .exit) ≡ putAt slot index (now (self .entry)) ⌝ }
+    {
+        match slot {
+            0 => self.r = Some(index),
+            1 => self.g = Some(index),
+            2 => self.b = Some(index),
+            _ => {}
+        }
+    }
+}
+
+// Tries all rules: the last match gives the scheme, each match with a slot writes the channel there.
+fn apply_rules(text: &[u8], rules: &[Rule], channel: &ChannelDescription, index: usize, slots: &mut Slots) -> CompressorScheme
+    requires named { ⌜ Inside (now text) (now channel .name) ⌝ }
+    requires suffixed { ⌜ Suffixed (now text) (now rules) ⌝ }
+    ensures scheme { λ r. ⌜ r ≡ schemeIn (now (text .entry)) (now (rules .entry)) (now (channel .entry)) ⌝ }
+    ensures slots { λ _. ⌜ now (slots .exit) ≡ stamped (now (text .entry)) (now (rules .entry)) (now (channel .entry)) index (now (slots .entry)) ⌝ }
+{
+    let suffix = channel.suffix(text);
+    let mut scheme = CompressorScheme::Unknown;
+    for rule in rules {
+        if rule.matches(text, suffix, channel.sample_type) {
+            scheme = rule.scheme;
+            if let Some(slot) = rule.csc_index {
+                slots.put(slot, index);
+            }
+        }
+    }
+    scheme
+}
+
+// Where the prefix stands among the known ones.
+fn place_of(text: &[u8], channels: &[ChannelDescription], known: &[KnownPrefix], prefix: &[u8]) -> Option<usize>
+    requires named { ⌜ Named (now text) (now channels) ⌝ }
+    requires firsts { ⌜ ((k : ℕ) → k < length (now known) → getD (now known) k noKnown .first < length (now channels)) ⌝ }
+    ensures { λ r. ⌜ FirstAt (length (now (known .entry))) (λ k. knownBytes (now (text .entry)) (now (channels .entry)) (getD (now (known .entry)) k noKnown) ≡ now (prefix .entry)) r ⌝ }
+{
+    for (place, met) in known.iter().enumerate() {
+        if channels[met.first].prefix(text) == prefix {
+            return Some(place);
+        }
+    }
+    None
+}
+
+// Takes in the channel at `index`: its prefix, put last where it is new, and its rules. Gives its scheme.
+pub(crate) fn meet(text: &[u8], channels: &[ChannelDescription], rules: &[Rule], index: usize, known: &mut Vec<KnownPrefix>) -> CompressorScheme
+    requires named { ⌜ Named (now text) (now channels) ⌝ }
+    requires suffixed { ⌜ Suffixed (now text) (now rules) ⌝ }
+    requires within { ⌜ index < length (now channels) ⌝ }
+    requires met { ⌜ Met (now text) (now channels) (now rules) index (vec-items (now known)) ⌝ }
+    requires room { ⌜ index < vec-cap (now known) ⌝ }
+    requires short { ⌜ vec-len (now known) ≤ index ⌝ }
+    ensures scheme { λ r. ⌜ r ≡ schemeIn (now (text .entry)) (now (rules .entry)) (getD (now (channels .entry)) index noChannel) ⌝ }
+    ensures met { λ _. ⌜ Met (now (text .entry)) (now (channels .entry)) (now (rules .entry)) (index + 1) (vec-items (now (known .exit))) ⌝ }
+    ensures short { λ _. ⌜ vec-len (now (known .exit)) ≤ index + 1 ⌝ }
+    ensures capacity { λ _. ⌜ vec-cap (now (known .exit)) ≡ vec-cap (now (known .entry)) ⌝ }
+{
+    let channel = &channels[index];
+    match place_of(text, channels, known.as_slice(), channel.prefix(text)) {
+        Some(place) => {
+            let first = known[place].first;
+            let mut slots = known[place].slots;
+            let scheme = apply_rules(text, rules, channel, index, &mut slots);
+            known[place] = KnownPrefix { first, slots };
+            scheme
+        }
+        None => {
+            let mut slots = Slots { r: None, g: None, b: None };
+            let scheme = apply_rules(text, rules, channel, index, &mut slots);
+            known.push_reserved(KnownPrefix { first: index, slots });
+            scheme
+        }
+    }
+}
