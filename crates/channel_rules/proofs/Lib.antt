@@ -5,6 +5,9 @@ mod Keeping
 mod Lawful
 mod Matched
 mod OneRule
+mod Ordered
 mod Pairs
 mod Picks
+mod Planes
+mod Ranked
 mod Splitting

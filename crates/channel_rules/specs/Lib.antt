@@ -5,5 +5,7 @@ pub mod Triplets
 pub mod Sides
 pub mod Refusals
 pub mod Kept
+pub mod Units
 pub mod Laws
+pub mod Cards
 pub mod PrefixMap

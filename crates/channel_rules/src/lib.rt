@@ -1,7 +1,7 @@
 // Classifies the channels of a chunk into a roll, by their names.
+mod cards;
 mod checks;
 mod classify;
-
 mod listing;
 mod matching;
 mod names;
@@ -9,7 +9,10 @@ mod prefix_map;
 mod records;
 mod refusal;
 mod roll;
+mod unit;
+mod units;
 
+pub use cards::cards_stand;
 pub use classify::classify_channels;
 pub use records::ChannelDescription;
 pub use records::ChannelInfo;
@@ -24,3 +27,5 @@ pub use refusal::ConcernedDisplay;
 pub use refusal::Refusal;
 pub use refusal::RefusalDisplay;
 pub use roll::Roll;
+pub use unit::Unit;
+pub use unit::UnitChannels;

@@ -53,7 +53,7 @@ pub(crate) fn list_channels(
     }
 }
 
-fn is_lossy(info: &ChannelInfo) -> bool
+pub(crate) fn is_lossy(info: &ChannelInfo) -> bool
     ensures { λ r. ⌜ r ≡ isLossy (now (info .entry) .scheme) ⌝ }
 {
     match info.scheme {

@@ -1,0 +1,5 @@
+use mathlib.Core.Path.{refl}
+use Rattle.channel_rules.proofs.cards.cards_stand.Needs as need
+
+pub returns : need.returns
+returns c = record { forms = refl; widths = refl; heights = refl; apart = refl }
