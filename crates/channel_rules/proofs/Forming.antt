@@ -61,6 +61,7 @@ module _ (text : List ℕ) (chs : List ChannelDescription) (rules : List Rule) w
   module _ (ks : List KnownPrefix) (m : Met text chs rules (length chs) ks) where
     abbrev view : KnownPrefix → List ℕ × Slots
     view k = (knownBytes text chs k, k .slots)
+
     abbrev pair : List ℕ → List ℕ × Slots
     pair p = (p, slotsOf text chs rules p)
 
@@ -72,7 +73,7 @@ module _ (text : List ℕ) (chs : List ChannelDescription) (rules : List Rule) w
         let D = prefixesIn text chs in
         let l : length ks ≡ length D = sym (length-map ks view) ∙ ap length views ∙ length-map D pair in
         let e = sym (getD-map view ks k noKnown ([], noSlots) h) ∙ ap (λ v. getD v k ([], noSlots)) views
-                ∙ getD-map pair D k [] ([], noSlots) (omega (arith, l, h)) in
+        ∙ getD-map pair D k [] ([], noSlots) (omega (arith, l, h)) in
         let p = getD D k [] in
         subst (Bounded (length chs)) (sym (ap (λ v. v .1) e)) (holder-in p 0, holder-in p 1, holder-in p 2)
 
@@ -97,5 +98,5 @@ module _ (text : List ℕ) (chs : List ChannelDescription) (rules : List Rule) w
           ∙ ap (joined (λ v. listOf (formedBy chs infos (v .1)))) views
           ∙ joined-map (λ v. listOf (formedBy chs infos (v .1))) pair (prefixesIn text chs)
           ∙ joined-same (λ p. listOf (formedBy chs infos (slotsOf text chs rules p))) (λ p. listOf (tripletOf text chs rules p))
-              (λ p. ap listOf (three-same (length chs) (togetherIn chs infos) (goTogether text chs rules) together-same _ _ _ (holder-in p 0) (holder-in p 1) (holder-in p 2)))
-              (prefixesIn text chs)
+          (λ p. ap listOf (three-same (length chs) (togetherIn chs infos) (goTogether text chs rules) together-same _ _ _ (holder-in p 0) (holder-in p 1) (holder-in p 2)))
+          (prefixesIn text chs)

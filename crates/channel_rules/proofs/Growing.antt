@@ -86,18 +86,25 @@ firsts-push n ks new f l = from-all n (ks ++ new ∷ []) (all-push (λ k. k .fir
 module _ (text : List ℕ) (chs : List ChannelDescription) (rules : List Rule) (i : ℕ) (h : i < length chs) where
   abbrev c : ChannelDescription
   c = getD chs i noChannel
+
   abbrev own : List ℕ
   own = prefixIn text (getD chs i noChannel)
+
   abbrev D : List (List ℕ)
   D = prefixesIn text (take i chs)
+
   abbrev slots-by : ℕ → List ℕ → Slots
   slots-by n p = slotsOf text (take n chs) rules p
+
   abbrev g : ℕ → List ℕ → List ℕ × Slots
   g n p = (p, slotsOf text (take n chs) rules p)
+
   abbrev test : List ℕ → Bool
   test p = sameBytes p own
+
   abbrev view : KnownPrefix → List ℕ × Slots
   view k = (knownBytes text chs k, k .slots)
+
   abbrev Views : List KnownPrefix → Type 0
   Views ks = map view ks ≡ map (g i) D
 
@@ -130,16 +137,16 @@ module _ (text : List ℕ) (chs : List ChannelDescription) (rules : List Rule) (
       → map view (ks ++ record { first = i; slots = stamped text rules c i noSlots } ∷ []) ≡ mapIn text (take (i + 1) chs) rules
   met-new ks m e =
       let none : All (λ p. test p ≡ false) D = all-from-getD (λ p. test p ≡ false) D [] (λ k l.
-            let in′ : k < length ks = omega (arith, long ks m) in
-            differs (getD D k []) own (λ s. e k in′ (ap (λ v. v .0) (view-at ks m k in′) ∙ s))) in
+      let in′ : k < length ks = omega (arith, long ks m) in
+      differs (getD D k []) own (λ s. e k in′ (ap (λ v. v .0) (view-at ks m k in′) ∙ s))) in
       let lone = some-none test D none in
       let far = all-some (λ x. sameBytes (prefixIn text x) own) (take i chs) (sym (some-map test (prefixIn text) (take i chs)) ∙ sym (some-distinct sameBytes test cong (map (prefixIn text) (take i chs))) ∙ lone) in
       let empty : (k : ℕ) → holder text (take i chs) rules own k ≡ None = λ k. lastPlace-none (filledBy text rules own k) (take i chs)
-            (all-weaker (λ x. sameBytes (prefixIn text x) own ≡ false) (λ x. filledBy text rules own k x ≡ false) (λ x q. ap (λ b. b && writes text rules k x) q) (take i chs) far) in
+      (all-weaker (λ x. sameBytes (prefixIn text x) own ≡ false) (λ x. filledBy text rules own k x ≡ false) (λ x q. ap (λ b. b && writes text rules k x) q) (take i chs) far) in
       let others : map (g (i + 1)) D ≡ map (g i) D = map-same (g (i + 1)) (g i) D
-            (all-weaker (λ p. test p ≡ false) (λ p. g (i + 1) p ≡ g i p) (λ p q. ap (λ s. (p, s)) (slots-at p false (turned p own q))) D none) in
+      (all-weaker (λ p. test p ≡ false) (λ p. g (i + 1) p ≡ g i p) (λ p q. ap (λ s. (p, s)) (slots-at p false (turned p own q))) D none) in
       let last : g (i + 1) own ≡ (own, stamped text rules c i noSlots) =
-            ap (λ s. (own, s)) (slots-at own true (sameBytes-decides own own .1 refl) ∙ ap (stamped text rules c i) (all-three (empty 0) (empty 1) (empty 2))) in
+      ap (λ s. (own, s)) (slots-at own true (sameBytes-decides own own .1 refl) ∙ ap (stamped text rules c i) (all-three (empty 0) (empty 1) (empty 2))) in
       map-append view ks (record { first = i; slots = stamped text rules c i noSlots } ∷ [])
       ∙ ap (λ l. l ++ (own, stamped text rules c i noSlots) ∷ []) (m ∙ sym others)
       ∙ ap (λ v. map (g (i + 1)) D ++ v ∷ []) (sym last)
@@ -158,25 +165,28 @@ module _ (text : List ℕ) (chs : List ChannelDescription) (rules : List Rule) (
       let passes : test (getD D at []) ≡ true = sameBytes-decides (getD D at []) own .1 is-own in
       let new : KnownPrefix = record { first = getD ks at noKnown .first; slots = stamped text rules c i (getD ks at noKnown .slots) } in
       let here : view new ≡ g (i + 1) (getD D at []) =
-            ap (λ v. (v .0, stamped text rules c i (v .1))) (view-at ks m at a)
-            ∙ ap (λ s. (getD D at [], s)) (sym (slots-at (getD D at []) true (sameBytes-decides own (getD D at []) .1 (sym is-own)))) in
+      ap (λ v. (v .0, stamped text rules c i (v .1))) (view-at ks m at a)
+      ∙ ap (λ s. (getD D at [], s)) (sym (slots-at (getD D at []) true (sameBytes-decides own (getD D at []) .1 (sym is-own)))) in
       let once = pairwise-distinct sameBytes (map (prefixIn text) (take i chs)) in
       let apart : (j : ℕ) → j < length D → j ≢ at → sameBytes own (getD D j []) ≡ false = λ j l n.
-            elim (cases-order j at) [
-              inl q ↦ absurd (n q)
-            | inr q ↦ elim q [
-                inl b ↦ turned (getD D j []) own (subst (λ p. sameBytes (getD D j []) p ≡ false) is-own (pairwise-at (λ x y. sameBytes x y ≡ false) D j at [] b inside once))
-              | inr b ↦ subst (λ p. sameBytes p (getD D j []) ≡ false) is-own (pairwise-at (λ x y. sameBytes x y ≡ false) D at j [] b l once) ] ] in
+      elim (cases-order j at) [
+        | inl q ↦ absurd (n q)
+        | inr q ↦ elim q [
+          | inl b ↦ turned (getD D j []) own (subst (λ p. sameBytes (getD D j []) p ≡ false) is-own (pairwise-at (λ x y. sameBytes x y ≡ false) D j at [] b inside once))
+          | inr b ↦ subst (λ p. sameBytes p (getD D j []) ≡ false) is-own (pairwise-at (λ x y. sameBytes x y ≡ false) D at j [] b l once)
+        ]
+      ] in
       let lengths : length (set (map (g i) D) at (view new)) ≡ length (map (g (i + 1)) D) = length-set (map (g i) D) at (view new) ∙ length-map D (g i) ∙ sym (length-map D (g (i + 1))) in
       map-set view ks at new ∙ ap (λ l. set l at (view new)) m
       ∙ ext-getD ([], noSlots) (set (map (g i) D) at (view new)) (map (g (i + 1)) D) lengths
-          (λ j l. let k : j < length D = omega (arith, lengths, length-map D (g (i + 1))) in
-            elim (cases-eq j at) [
-              inl q ↦ ap (λ n. getD (set (map (g i) D) at (view new)) n ([], noSlots)) q
-                ∙ getD-set-same (map (g i) D) at (view new) ([], noSlots) (omega (arith, length-map D (g i)))
-                ∙ here ∙ sym (getD-map (g (i + 1)) D at [] ([], noSlots) inside) ∙ ap (λ n. getD (map (g (i + 1)) D) n ([], noSlots)) (sym q)
-            | inr n ↦ getD-set-other (map (g i) D) at j (view new) ([], noSlots) n
-                ∙ getD-map (g i) D j [] ([], noSlots) k
-                ∙ ap (λ s. (getD D j [], s)) (sym (slots-at (getD D j []) false (apart j k n)))
-                ∙ sym (getD-map (g (i + 1)) D j [] ([], noSlots) k) ])
+      (λ j l. let k : j < length D = omega (arith, lengths, length-map D (g (i + 1))) in
+      elim (cases-eq j at) [
+        | inl q ↦ ap (λ n. getD (set (map (g i) D) at (view new)) n ([], noSlots)) q
+            ∙ getD-set-same (map (g i) D) at (view new) ([], noSlots) (omega (arith, length-map D (g i)))
+            ∙ here ∙ sym (getD-map (g (i + 1)) D at [] ([], noSlots) inside) ∙ ap (λ n. getD (map (g (i + 1)) D) n ([], noSlots)) (sym q)
+        | inr n ↦ getD-set-other (map (g i) D) at j (view new) ([], noSlots) n
+            ∙ getD-map (g i) D j [] ([], noSlots) k
+            ∙ ap (λ s. (getD D j [], s)) (sym (slots-at (getD D j []) false (apart j k n)))
+            ∙ sym (getD-map (g (i + 1)) D j [] ([], noSlots) k)
+      ])
       ∙ ap (map (g (i + 1))) (sym (list-more true (some-at test D at [] inside passes)))

@@ -56,16 +56,23 @@ module _ (text : List ℕ) (chs : List ChannelDescription) (rules : List Rule) (
       wide = at-most 8192 (bounds .width) (λ l. h ChunkTooLarge (lit< tt) (inl l));
       high = at-most 8192 (bounds .height) (λ l. h ChunkTooLarge (lit< tt) (inr l));
       named = λ i l. inside text (getD chs i noChannel .name) (λ o. h (OutsideText (OfChannel i)) (lit< tt) (l, o));
-      suffixed = λ j l. inside text (getD rules j noRule .suffix) (λ o. h (OutsideText (OfRule j)) (lit< tt) (l, o)) }
+      suffixed = λ j l. inside text (getD rules j noRule .suffix) (λ o. h (OutsideText (OfRule j)) (lit< tt) (l, o));
+    }
 
     pub accepted : FirstAt (length chs) (Doubled (tripletsIn text chs rules)) None → (f : Refusal) → S f → ⊥
     accepted none f s = elim (above f) [
-        inl l ↦ h f l s
-      | inr p ↦ (let t = subst S (p .1) s in none (p .0) (t .0) (t .1)) ]
+      | inl l ↦ h f l s
+      | inr p ↦ (let t = subst S (p .1) s in none (p .0) (t .0) (t .1))
+    ]
 
     pub doubled : (k : ℕ) → FirstAt (length chs) (Doubled (tripletsIn text chs rules)) (Some k) → Judged text chs rules bounds (Err (HeldTwice k))
-    doubled k d = ((d .0, d .1), λ e E s. elim (above e) [
-        inl l ↦ h e l s
-      | inr p ↦ elim (subst (λ x. Earlier x (HeldTwice k)) (p .1) E) [
-          inl l ↦ omega arith
-        | inr n ↦ (let t = subst S (p .1) s in d .2 (p .0) (n .1) (t .1)) ] ])
+    doubled k d = (
+      (d .0, d .1),
+      λ e E s. elim (above e) [
+        | inl l ↦ h e l s
+        | inr p ↦ elim (subst (λ x. Earlier x (HeldTwice k)) (p .1) E) [
+          | inl l ↦ omega arith
+          | inr n ↦ (let t = subst S (p .1) s in d .2 (p .0) (n .1) (t .1))
+        ]
+      ],
+    )

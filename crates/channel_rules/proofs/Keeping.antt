@@ -132,16 +132,18 @@ module _ (text : List ℕ) (chs : List ChannelDescription) (rules : List Rule) w
       let j = p .here .triplet in
       let k = p .there .triplet in
       elim (cases-order j k) [
-        inl e ↦
-          (let t = getD ts j noTriplet in
-           let g = all-getD Good ts j noTriplet (p .here .listed) good in
-           let b = built (g .0) t (g .1) in
-           let single : (s : ℕ) → Twice t (held t s) → ⊥ = λ s w. once (held t s) (b .in-slot s .within) (j, p .here .listed, w) in
-           let same : held t (p .here .slot) ≡ held t (p .there .slot) = p .same ∙ ap (λ n. held (getD ts n noTriplet) (p .there .slot)) (sym e) in
-           (e, own-slot t (differ t (single 0) (single 1)) (p .here .slot) (p .there .slot) (p .here .small) (p .there .small) same))
-      | inr e ↦ elim e [
-          inl l ↦ absurd (pairwise-at Strange ts j k noTriplet l (p .there .listed) strangers (p .here .slot) (p .there .slot) (p .same))
-        | inr l ↦ absurd (pairwise-at Strange ts k j noTriplet l (p .here .listed) strangers (p .there .slot) (p .here .slot) (sym (p .same))) ] ]
+        | inl e ↦
+            (let t = getD ts j noTriplet in
+            let g = all-getD Good ts j noTriplet (p .here .listed) good in
+            let b = built (g .0) t (g .1) in
+            let single : (s : ℕ) → Twice t (held t s) → ⊥ = λ s w. once (held t s) (b .in-slot s .within) (j, p .here .listed, w) in
+            let same : held t (p .here .slot) ≡ held t (p .there .slot) = p .same ∙ ap (λ n. held (getD ts n noTriplet) (p .there .slot)) (sym e) in
+            (e, own-slot t (differ t (single 0) (single 1)) (p .here .slot) (p .there .slot) (p .here .small) (p .there .small) same))
+        | inr e ↦ elim e [
+          | inl l ↦ absurd (pairwise-at Strange ts j k noTriplet l (p .there .listed) strangers (p .here .slot) (p .there .slot) (p .same))
+          | inr l ↦ absurd (pairwise-at Strange ts k j noTriplet l (p .here .listed) strangers (p .there .slot) (p .here .slot) (sym (p .same)))
+        ]
+      ]
 
   module _ (bounds : IntegerBounds) where
     abbrev infos : List ChannelInfo
@@ -159,11 +161,12 @@ module _ (text : List ℕ) (chs : List ChannelDescription) (rules : List Rule) w
     -- one member beside the first
     alike-at : (t : Triplet) (i : ℕ) → i < length chs → t .r < length chs → lossyAt text chs rules i ≡ true
         → (getD chs i noChannel .«x_sampling» ≡ getD chs (t .r) noChannel .«x_sampling») × (getD chs i noChannel .«y_sampling» ≡ getD chs (t .r) noChannel .«y_sampling») → Alike infos t i
-    alike-at t i h f l s =
-        (omega (arith, length-map chs (infoIn text rules bounds)),
-         ap (λ e. isLossy (e .scheme)) (info-at i h) ∙ l,
-         ap (λ e. e .width) (info-at i h) ∙ ap (side (bounds .width)) (s .0) ∙ sym (ap (λ e. e .width) (info-at (t .r) f)),
-         ap (λ e. e .height) (info-at i h) ∙ ap (side (bounds .height)) (s .1) ∙ sym (ap (λ e. e .height) (info-at (t .r) f)))
+    alike-at t i h f l s = (
+      omega (arith, length-map chs (infoIn text rules bounds)),
+      ap (λ e. isLossy (e .scheme)) (info-at i h) ∙ l,
+      ap (λ e. e .width) (info-at i h) ∙ ap (side (bounds .width)) (s .0) ∙ sym (ap (λ e. e .width) (info-at (t .r) f)),
+      ap (λ e. e .height) (info-at i h) ∙ ap (side (bounds .height)) (s .1) ∙ sym (ap (λ e. e .height) (info-at (t .r) f)),
+    )
 
     steps : (c e : ChannelDescription) → sameSteps c e ≡ true → (e .«x_sampling» ≡ c .«x_sampling») × (e .«y_sampling» ≡ c .«y_sampling»)
     steps c e h = (grind (arith, tells), grind (arith, tells))
@@ -174,8 +177,8 @@ module _ (text : List ℕ) (chs : List ChannelDescription) (rules : List Rule) w
         let v = five (lossyAt text chs rules (t .r)) (lossyAt text chs rules (t .g)) (lossyAt text chs rules (t .b)) (sameSteps a (getD chs (t .g) noChannel)) (sameSteps a (getD chs (t .b) noChannel)) (b .passes) in
         let first = b .in-slot 0 .within in
         by-slot s (alike-at t (t .r) first first (v .0) (refl, refl))
-          (alike-at t (t .g) (b .in-slot 1 .within) first (v .1) (steps a (getD chs (t .g) noChannel) (v .3)))
-          (alike-at t (t .b) (b .in-slot 2 .within) first (v .2) (steps a (getD chs (t .b) noChannel) (v .4)))
+        (alike-at t (t .g) (b .in-slot 1 .within) first (v .1) (steps a (getD chs (t .g) noChannel) (v .3)))
+        (alike-at t (t .b) (b .in-slot 2 .within) first (v .2) (steps a (getD chs (t .b) noChannel) (v .4)))
       where
         by-slot : (k : ℕ) → Alike infos t (t .r) → Alike infos t (t .g) → Alike infos t (t .b) → Alike infos t (held t k)
         by-slot zero x y z = x

@@ -49,12 +49,18 @@ module _ (b : ℕ) (bs : List ℕ) where
   split-more : (n : ℕ) (x y : Bool) → eqb n 0 ≡ x → eqb b 46 ≡ y → Splits bs n → Splits (b ∷ bs) (cond x (cond y 1 0) (suc n))
   split-more n true true p q h =
       let z : n ≡ 0 = true-eqb n 0 (sym p) in
-      record { within = omega arith; plain = later 0 (subst (λ m. (k : ℕ) → m ≤ k → k < length bs → getD bs k 0 ≡ 46 → ⊥) z (h .plain));
-        dotted = dots 0 (λ _. true-eqb b 46 (sym q)) (λ k e. absurd (let w : ⊥ = omega arith in w)) }
+      record {
+        within = omega arith;
+        plain = later 0 (subst (λ m. (k : ℕ) → m ≤ k → k < length bs → getD bs k 0 ≡ 46 → ⊥) z (h .plain));
+        dotted = dots 0 (λ _. true-eqb b 46 (sym q)) (λ k e. absurd (let w : ⊥ = omega arith in w));
+      }
   split-more n true false p q h =
       let z : n ≡ 0 = true-eqb n 0 (sym p) in
-      record { within = omega arith; plain = all (λ e. nope (eqb b 46) (eq-eqb b 46 e) q) (subst (λ m. (k : ℕ) → m ≤ k → k < length bs → getD bs k 0 ≡ 46 → ⊥) z (h .plain));
-        dotted = λ k e. absurd (let w : ⊥ = omega arith in w) }
+      record {
+        within = omega arith;
+        plain = all (λ e. nope (eqb b 46) (eq-eqb b 46 e) q) (subst (λ m. (k : ℕ) → m ≤ k → k < length bs → getD bs k 0 ≡ 46 → ⊥) z (h .plain));
+        dotted = λ k e. absurd (let w : ⊥ = omega arith in w);
+      }
   split-more n false y p q h =
       record { within = omega (arith, h .within); plain = later n (h .plain); dotted = dots n (λ z. absurd (nope (eqb n 0) (eq-eqb n 0 z) p)) (h .dotted) }
 
@@ -120,9 +126,10 @@ module _ (text : List ℕ) (rules : List Rule) (prefix : List ℕ) (slot : ℕ) 
 
   fills : Decides (filledBy text rules prefix slot c) (Fills text rules prefix slot c)
   fills =
-      both-decide (sameBytes (prefixIn text c) prefix) (writes text rules slot c) (sameBytes-decides (prefixIn text c) prefix)
-      ((λ e. let r = some-index test rules noRule e in let d = rule-decides (getD rules (r .0) noRule) .0 (r .2) in (r .0, r .1, d .0, d .1)),
-       (λ h. some-at test rules (h .0) noRule (h .1) (rule-decides (getD rules (h .0) noRule) .1 (h .2, h .3))))
+      both-decide (sameBytes (prefixIn text c) prefix) (writes text rules slot c) (sameBytes-decides (prefixIn text c) prefix) (
+        (λ e. let r = some-index test rules noRule e in let d = rule-decides (getD rules (r .0) noRule) .0 (r .2) in (r .0, r .1, d .0, d .1)),
+        (λ h. some-at test rules (h .0) noRule (h .1) (rule-decides (getD rules (h .0) noRule) .1 (h .2, h .3))),
+      )
 
 -- first appearance
 pairwise-weaker : {X : Type 0} (R S : X → X → Type 0) (P : X → Type 0) → ((y z : X) → P z → R y z → S y z) → (xs : List X) → All P xs → Pairwise R xs → Pairwise S xs
@@ -142,14 +149,17 @@ in-order (x ∷ xs) = (all-weaker (λ z. not (sameBytes x z) ≡ true) (Before (
   where
     kept : List (List ℕ)
     kept = kept-by (λ z. not (sameBytes x z)) (distinct sameBytes xs)
+
     passes : All (λ z. not (sameBytes x z) ≡ true) kept
     passes = kept-by-passes (λ z. not (sameBytes x z)) (distinct sameBytes xs)
+
     first : (z : List ℕ) → not (sameBytes x z) ≡ true → Before (x ∷ xs) x z
     first z n = (0, omega arith, refl, up-to-0)
       where
         up-to-0 : (j : ℕ) → j ≤ 0 → getD (x ∷ xs) j [] ≡ z → ⊥
         up-to-0 zero l e = differs x z n e
         up-to-0 (suc j) l e = omega arith
+
     later : (y z : List ℕ) → not (sameBytes x z) ≡ true → Before xs y z → Before (x ∷ xs) y z
     later y z n b = (suc (b .0), omega (arith, b .1), b .2, up-to)
       where
@@ -161,10 +171,12 @@ first-appearances : (names : List (List ℕ)) → FirstAppearances names (distin
 first-appearances names = record {
   whole = λ i h. found (getD names i []) names (distinct sameBytes names) (sym (kept (getD names i []))) (i, h, refl);
   only = λ k h. found (getD (distinct sameBytes names) k []) (distinct sameBytes names) names (kept (getD (distinct sameBytes names) k [])) (k, h, refl);
-  ordered = λ j k l h. pairwise-at (Before names) (distinct sameBytes names) j k [] l h (in-order names) }
+  ordered = λ j k l h. pairwise-at (Before names) (distinct sameBytes names) j k [] l h (in-order names);
+}
   where
     kept : (y : List ℕ) → some (λ p. sameBytes p y) (distinct sameBytes names) ≡ some (λ p. sameBytes p y) names
     kept y = some-distinct sameBytes (λ p. sameBytes p y) (λ a b e. ap (λ p. sameBytes p y) (sameBytes-decides a b .0 e)) names
+
     -- what stands in one list stands in another that passes the same tests
     found : (y : List ℕ) (xs ys : List (List ℕ)) → some (λ p. sameBytes p y) xs ≡ some (λ p. sameBytes p y) ys
         → (i : ℕ) × (i < length xs) × (getD xs i [] ≡ y) → (k : ℕ) × (k < length ys) × (getD ys k [] ≡ y)
@@ -179,24 +191,29 @@ module _ (n d q r s : ℕ) (pos : 0 < d) (whole : d * q + r ≡ n) (rest : r < d
   Covers = (n ≤ (q + s) * d) × ((m : ℕ) → n ≤ m * d → q + s ≤ m)
 
   even : r ≡ 0 → s ≡ 0 → Covers
-  even e f =
-      (omega (arith, mul-comm d q, add-mul q s d, ap (λ x. x * d) f),
-       λ m h. elim (cases-lt m (q + s)) [
-         inl l ↦ (let more : suc m * d ≤ q * d = mul-le-mul-right d (omega arith) in omega (arith, mul-comm d q, suc-mul m d))
-       | inr g ↦ g ])
+  even e f = (
+    omega (arith, mul-comm d q, add-mul q s d, ap (λ x. x * d) f),
+    λ m h. elim (cases-lt m (q + s)) [
+      | inl l ↦ (let more : suc m * d ≤ q * d = mul-le-mul-right d (omega arith) in omega (arith, mul-comm d q, suc-mul m d))
+      | inr g ↦ g
+    ],
+  )
 
   odd : 0 < r → s ≡ 1 → Covers
-  odd e f =
-      (omega (arith, mul-comm d q, add-mul q s d, ap (λ x. x * d) f),
-       λ m h. elim (cases-lt m (q + s)) [
-         inl l ↦ (let more : m * d ≤ q * d = mul-le-mul-right d (omega arith) in omega (arith, mul-comm d q))
-       | inr g ↦ g ])
+  odd e f = (
+    omega (arith, mul-comm d q, add-mul q s d, ap (λ x. x * d) f),
+    λ m h. elim (cases-lt m (q + s)) [
+      | inl l ↦ (let more : m * d ≤ q * d = mul-le-mul-right d (omega arith) in omega (arith, mul-comm d q))
+      | inr g ↦ g
+    ],
+  )
 
 cover : (n d : ℕ) → 0 < d → (n ≤ (n / d + min 1 (n % d)) * d) × ((m : ℕ) → n ≤ m * d → n / d + min 1 (n % d) ≤ m)
 cover n d pos =
     elim (cases-eq (n % d) 0) [
-      inl e ↦ even n d (n / d) (n % d) (min 1 (n % d)) pos (div-add-mod n d) (mod-lt n pos) e (omega arith)
-    | inr e ↦ odd n d (n / d) (n % d) (min 1 (n % d)) pos (div-add-mod n d) (mod-lt n pos) (omega arith) (omega arith) ]
+      | inl e ↦ even n d (n / d) (n % d) (min 1 (n % d)) pos (div-add-mod n d) (mod-lt n pos) e (omega arith)
+      | inr e ↦ odd n d (n / d) (n % d) (min 1 (n % d)) pos (div-add-mod n d) (mod-lt n pos) (omega arith) (omega arith)
+    ]
 
 least-cover : (n step : ℕ) → LeastCover n step (side n step)
 least-cover n step =
@@ -209,8 +226,9 @@ laws = record {
   matches = matches;
   schemes = λ text rules c. (lastPlace (isFor text c) rules, lastPlace-is (isFor text c) rules noRule, refl);
   holders = λ text channels rules prefix slot.
-    last-decided (length channels) (λ i. filledBy text rules prefix slot (getD channels i noChannel) ≡ true) (λ i. Fills text rules prefix slot (getD channels i noChannel))
-    (λ i. fills text rules prefix slot (getD channels i noChannel) .0) (λ i. fills text rules prefix slot (getD channels i noChannel) .1)
-    (holder text channels rules prefix slot) (lastPlace-is (filledBy text rules prefix slot) channels noChannel);
+      last-decided (length channels) (λ i. filledBy text rules prefix slot (getD channels i noChannel) ≡ true) (λ i. Fills text rules prefix slot (getD channels i noChannel))
+      (λ i. fills text rules prefix slot (getD channels i noChannel) .0) (λ i. fills text rules prefix slot (getD channels i noChannel) .1)
+      (holder text channels rules prefix slot) (lastPlace-is (filledBy text rules prefix slot) channels noChannel);
   order = first-appearances;
-  sides = least-cover }
+  sides = least-cover;
+}

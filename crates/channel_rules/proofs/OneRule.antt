@@ -54,9 +54,10 @@ module _ (text : List ℕ) (rules : List Rule) (own : ChannelDescription) (i : �
   pub scheme-more : schemeIn text (take (i + 1) rules) own ≡ cond (isFor text own (getD rules i noRule)) (getD rules i noRule .scheme) (schemeIn text (take i rules) own)
   scheme-more =
       ap (schemeAt (take (i + 1) rules)) (lastPlace-more (isFor text own) rules i noRule h)
-      ∙ elim (isFor text own (getD rules i noRule)) as (λ b. schemeAt (take (i + 1) rules) (cond b (Some i) (lastPlace (isFor text own) (take i rules))) ≡ cond b (getD rules i noRule .scheme) (schemeIn text (take i rules) own))
-        [ true ↦ ap (λ (r : Rule). r .scheme) (getD-take (i + 1) rules i noRule (omega arith))
-        | false ↦ fronts (lastPlace (isFor text own) (take i rules)) (lastPlace-is (isFor text own) (take i rules) noRule) ]
+      ∙ elim (isFor text own (getD rules i noRule)) as (λ b. schemeAt (take (i + 1) rules) (cond b (Some i) (lastPlace (isFor text own) (take i rules))) ≡ cond b (getD rules i noRule .scheme) (schemeIn text (take i rules) own)) [
+        | true ↦ ap (λ (r : Rule). r .scheme) (getD-take (i + 1) rules i noRule (omega arith))
+        | false ↦ fronts (lastPlace (isFor text own) (take i rules)) (lastPlace-is (isFor text own) (take i rules) noRule)
+      ]
 
   written : (k : ℕ) → writes text (take (i + 1) rules) k own ≡ (writes text (take i rules) k own || (isFor text own (getD rules i noRule) && isSlot k (getD rules i noRule .«csc_index»)))
   written k = some-more (λ r. isFor text own r && isSlot k (r .«csc_index»)) rules i noRule h

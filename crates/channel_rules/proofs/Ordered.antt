@@ -18,6 +18,7 @@ use Rattle.channel_rules.specs.Units.{lonesIn, unitsIn, noUnit, leading, UnitA
 module _ (es : List ChannelInfo) (ts : List Triplet) where
   abbrev first : List UnitChannels
   first = map OfTriplet ts
+
   abbrev lones : List ℕ
   lones = lonesIn es ts
 

@@ -35,9 +35,10 @@ not-true false e = refl
 -- what is kept once is never the same
 pub pairwise-distinct : {X : Type 0} (same : X → X → Bool) (xs : List X) → Pairwise (λ x y. same x y ≡ false) (distinct same xs)
 pairwise-distinct same [] = tt
-pairwise-distinct same (x ∷ xs) =
-    (all-weaker (λ y. not (same x y) ≡ true) (λ y. same x y ≡ false) (λ y e. not-true (same x y) e) _ (kept-by-passes (λ y. not (same x y)) (distinct same xs)),
-     pairwise-kept (λ y z. same y z ≡ false) (λ y. not (same x y)) (distinct same xs) (pairwise-distinct same xs))
+pairwise-distinct same (x ∷ xs) = (
+  all-weaker (λ y. not (same x y) ≡ true) (λ y. same x y ≡ false) (λ y e. not-true (same x y) e) _ (kept-by-passes (λ y. not (same x y)) (distinct same xs)),
+  pairwise-kept (λ y z. same y z ≡ false) (λ y. not (same x y)) (distinct same xs) (pairwise-distinct same xs),
+)
 
 module _ {X Y : Type 0} (f : X → Option Y) where
   -- what holds of each that is found holds of all that are gathered

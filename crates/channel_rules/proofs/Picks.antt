@@ -49,12 +49,15 @@ module _ {X : Type 0} (test : X → Bool) where
       after : (k : ℕ) → ((i : ℕ) → k < i → i < length xs → test (getD xs i d) ≡ true → ⊥) → (i : ℕ) → suc k < i → i < length (x ∷ xs) → test (getD (x ∷ xs) i d) ≡ true → ⊥
       after k h zero l u = absurd (let z : ⊥ = omega arith in z)
       after k h (suc i) l u = h i (omega arith) (omega arith)
+
       none : ((i : ℕ) → i < length xs → test (getD xs i d) ≡ true → ⊥) → (i : ℕ) → 0 < i → i < length (x ∷ xs) → test (getD (x ∷ xs) i d) ≡ true → ⊥
       none h zero l u = absurd (let z : ⊥ = omega arith in z)
       none h (suc i) l u = h i (omega arith)
+
       never : test x ≡ false → ((i : ℕ) → i < length xs → test (getD xs i d) ≡ true → ⊥) → (i : ℕ) → i < length (x ∷ xs) → test (getD (x ∷ xs) i d) ≡ true → ⊥
       never e h zero u = λ p. nope (test x) p e
       never e h (suc i) u = h i (omega arith)
+
       at-cons : (o : Option ℕ) (b : Bool) → test x ≡ b → LastAt (length xs) (λ k. test (getD xs k d) ≡ true) o → LastAt (length (x ∷ xs)) (λ k. test (getD (x ∷ xs) k d) ≡ true) (orOther (mapped suc o) (cond b (Some zero) None))
       at-cons (Some k) b e h = (omega arith, h .1, after k (h .2))
       at-cons None true e h = (omega arith, e, none h)
@@ -71,6 +74,7 @@ module _ {X : Type 0} (same : X → X → Bool) where
     where
       test : X → Bool
       test z = not (same y z)
+
       at-cons : (s b : Bool) → same y x ≡ b
           → y ∷ kept-by (λ z. not (same y z)) (cond s (distinct same xs) (distinct same xs ++ x ∷ []))
           ≡ cond (b || s) (y ∷ kept-by (λ z. not (same y z)) (distinct same xs)) ((y ∷ kept-by (λ z. not (same y z)) (distinct same xs)) ++ x ∷ [])

@@ -42,10 +42,11 @@ module _ (test : ℕ → Bool) (n : ℕ) where
       let next : suc i ≡ i + 1 = omega arith in
       let rest : List ℕ = kept-by test (drop (i + 1) (counting 0 n)) in
       let cut : drop i (counting 0 n) ≡ i ∷ drop (i + 1) (counting 0 n) =
-          drop-cons (counting 0 n) i 0 (inside i h) ∙ ap (λ k. getD (counting 0 n) i 0 ∷ drop k (counting 0 n)) next ∙ ap (λ k. k ∷ drop (i + 1) (counting 0 n)) (number i h) in
+      drop-cons (counting 0 n) i 0 (inside i h) ∙ ap (λ k. getD (counting 0 n) i 0 ∷ drop k (counting 0 n)) next ∙ ap (λ k. k ∷ drop (i + 1) (counting 0 n)) (number i h) in
       let whole : kept-by test (counting 0 n) ≡ kept i ++ i ∷ rest =
-          ap (kept-by test) (sym (take-append-drop i (counting 0 n))) ∙ kept-by-append test (take i (counting 0 n)) (drop i (counting 0 n))
-          ∙ ap (λ l. kept i ++ kept-by test l) cut ∙ ap (λ b. kept i ++ cond b (i ∷ rest) rest) e in
-      let none : length (kept i) - length (kept i) ≡ 0 = omega arith in
-      (omega (arith, ap length whole, length-append (kept i) (i ∷ rest)),
-       sym (ap (λ l. getD l (length (kept i)) 0) whole ∙ getD-append-right (kept i) (i ∷ rest) (length (kept i)) (length (kept i)) 0 refl (omega arith) ∙ ap (λ k. getD (i ∷ rest) k 0) none))
+      ap (kept-by test) (sym (take-append-drop i (counting 0 n))) ∙ kept-by-append test (take i (counting 0 n)) (drop i (counting 0 n))
+      ∙ ap (λ l. kept i ++ kept-by test l) cut ∙ ap (λ b. kept i ++ cond b (i ∷ rest) rest) e in
+      let none : length (kept i) - length (kept i) ≡ 0 = omega arith in (
+        omega (arith, ap length whole, length-append (kept i) (i ∷ rest)),
+        sym (ap (λ l. getD l (length (kept i)) 0) whole ∙ getD-append-right (kept i) (i ∷ rest) (length (kept i)) (length (kept i)) 0 refl (omega arith) ∙ ap (λ k. getD (i ∷ rest) k 0) none),
+      )

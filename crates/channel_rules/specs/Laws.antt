@@ -46,10 +46,10 @@ pub record Laws : Type 0 where
   pub matches : (text suffix : List ℕ) (type : SampleType) (r : Rule) → Decides (matched text suffix type r) (Equal text suffix type r)
   -- the scheme is that of a rule after which none matches
   pub schemes : (text : List ℕ) (rules : List Rule) (c : ChannelDescription)
-    → (o : Option ℕ) × LastAt (length rules) (λ j. isFor text c (getD rules j noRule) ≡ true) o × (schemeIn text rules c ≡ schemeAt rules o)
+      → (o : Option ℕ) × LastAt (length rules) (λ j. isFor text c (getD rules j noRule) ≡ true) o × (schemeIn text rules c ≡ schemeAt rules o)
   -- a slot's holder is a channel that fills it, and after which none does
   pub holders : (text : List ℕ) (channels : List ChannelDescription) (rules : List Rule) (prefix : List ℕ) (slot : ℕ)
-    → LastAt (length channels) (λ i. Fills text rules prefix slot (getD channels i noChannel)) (holder text channels rules prefix slot)
+      → LastAt (length channels) (λ i. Fills text rules prefix slot (getD channels i noChannel)) (holder text channels rules prefix slot)
   -- prefixes are taken in the order of their first appearance
   pub order : (names : List (List ℕ)) → FirstAppearances names (distinct sameBytes names)
   -- a side is the least number of steps that cover the chunk's

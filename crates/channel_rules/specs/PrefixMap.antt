@@ -31,7 +31,8 @@ abbrev pub putAt : ℕ → ℕ → Slots → Slots
 putAt slot index s = record {
   r = cond (eqb slot 0) (Some index) (s .r);
   g = cond (eqb slot 1) (Some index) (s .g);
-  b = cond (eqb slot 2) (Some index) (s .b) }
+  b = cond (eqb slot 2) (Some index) (s .b);
+}
 
 -- the channel written into those slots that are marked
 abbrev pub stamp : Bool → Bool → Bool → ℕ → Slots → Slots
@@ -46,7 +47,8 @@ abbrev pub slotsOf : List ℕ → List ChannelDescription → List Rule → List
 slotsOf text channels rules p = record {
   r = holder text channels rules p 0;
   g = holder text channels rules p 1;
-  b = holder text channels rules p 2 }
+  b = holder text channels rules p 2;
+}
 
 -- the bytes of a known prefix: those of the channel that it came with
 abbrev pub knownBytes : List ℕ → List ChannelDescription → KnownPrefix → List ℕ

@@ -27,4 +27,5 @@ infoIn text rules bounds c = record {
   width = side (bounds .width) (c .«x_sampling»);
   height = side (bounds .height) (c .«y_sampling»);
   «sample_type» = c .«sample_type»;
-  «quantize_linearly» = c .«quantize_linearly» }
+  «quantize_linearly» = c .«quantize_linearly»;
+}

@@ -87,7 +87,8 @@ fn is_multiple(place: i32, step: usize) -> bool
 fn is_astray(rectangle: &IntegerBounds, channel: &ChannelDescription) -> bool
     ensures { λ r. ⌜ Decides r (Astray (now (rectangle .entry)) (now (channel .entry))) ⌝ }
 {
-    !is_multiple(rectangle.left, channel.x_sampling) || !is_multiple(rectangle.top, channel.y_sampling)
+    !is_multiple(rectangle.left, channel.x_sampling)
+        || !is_multiple(rectangle.top, channel.y_sampling)
 }
 
 fn astray(rectangle: &IntegerBounds, channels: &[ChannelDescription]) -> Option<usize>
@@ -102,7 +103,12 @@ fn astray(rectangle: &IntegerBounds, channels: &[ChannelDescription]) -> Option<
 }
 
 // Refusals 1 to 6, in their order.
-pub(crate) fn check_records(text: &[u8], channels: &[ChannelDescription], rules: &[Rule], rectangle: &IntegerBounds) -> Result<(), Refusal>
+pub(crate) fn check_records(
+    text: &[u8],
+    channels: &[ChannelDescription],
+    rules: &[Rule],
+    rectangle: &IntegerBounds,
+) -> Result<(), Refusal>
     ensures { λ r. ⌜ JudgedRecords (now (text .entry)) (now (channels .entry)) (now (rules .entry)) (now (rectangle .entry)) r ⌝ }
 {
     if channels.len() > 64 || rules.len() > 64 {
@@ -132,7 +138,9 @@ pub(crate) fn check_records(text: &[u8], channels: &[ChannelDescription], rules:
 fn is_twice(triplet: &Triplet, index: usize) -> bool
     ensures { λ r. ⌜ Decides r (Twice (now (triplet .entry)) index) ⌝ }
 {
-    triplet.r == index && triplet.g == index || triplet.r == index && triplet.b == index || triplet.g == index && triplet.b == index
+    triplet.r == index && triplet.g == index
+        || triplet.r == index && triplet.b == index
+        || triplet.g == index && triplet.b == index
 }
 
 fn is_doubled(triplets: &[Triplet], index: usize) -> bool

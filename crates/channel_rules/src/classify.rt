@@ -17,7 +17,13 @@ use crate::refusal::Refusal;
 use crate::roll::Roll;
 
 // Classifies each channel and finds the colour triplets. A refusal leaves the roll empty. Nothing is allocated.
-pub fn classify_channels(roll: &mut Roll, text: &[u8], channels: &[ChannelDescription], rules: &[Rule], rectangle: &IntegerBounds) -> Result<(), Refusal>
+pub fn classify_channels(
+    roll: &mut Roll,
+    text: &[u8],
+    channels: &[ChannelDescription],
+    rules: &[Rule],
+    rectangle: &IntegerBounds,
+) -> Result<(), Refusal>
     ensures answer { λ r. ⌜ Judged (now (text .entry)) (now (channels .entry)) (now (rules .entry)) (now (rectangle .entry)) r ⌝ }
     ensures channels { λ r. ⌜ vec-items (now (roll .exit) .channels) ≡ unlessRefused r (map (infoIn (now (text .entry)) (now (rules .entry)) (now (rectangle .entry))) (now (channels .entry))) ⌝ }
     ensures triplets { λ r. ⌜ vec-items (now (roll .exit) .triplets) ≡ unlessRefused r (tripletsIn (now (text .entry)) (now (channels .entry)) (now (rules .entry))) ⌝ }
@@ -26,8 +32,20 @@ pub fn classify_channels(roll: &mut Roll, text: &[u8], channels: &[ChannelDescri
     roll.channels.clear();
     roll.triplets.clear();
     check_records(text, channels, rules, rectangle)?;
-    list_channels(&mut roll.channels, &mut roll.prefix_map, text, channels, rules, rectangle);
-    list_triplets(&mut roll.triplets, channels, roll.channels.as_slice(), roll.prefix_map.as_slice());
+    list_channels(
+        &mut roll.channels,
+        &mut roll.prefix_map,
+        text,
+        channels,
+        rules,
+        rectangle,
+    );
+    list_triplets(
+        &mut roll.triplets,
+        channels,
+        roll.channels.as_slice(),
+        roll.prefix_map.as_slice(),
+    );
     roll.prefix_map.clear();
     if let Some(index) = held_twice(roll.triplets.as_slice(), channels.len()) {
         roll.channels.clear();

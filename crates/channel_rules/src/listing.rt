@@ -49,7 +49,13 @@ pub(crate) fn list_channels(
         let height = side_of(rectangle.height, channel.y_sampling);
         let sample_type = channel.sample_type;
         let quantize_linearly = channel.quantize_linearly;
-        infos.push_reserved(ChannelInfo { scheme, width, height, sample_type, quantize_linearly });
+        infos.push_reserved(ChannelInfo {
+            scheme,
+            width,
+            height,
+            sample_type,
+            quantize_linearly,
+        });
     }
 }
 
@@ -69,7 +75,13 @@ fn have_same_steps(a: &ChannelDescription, b: &ChannelDescription) -> bool
 }
 
 // Three lossy channels with equal steps.
-fn go_together(channels: &[ChannelDescription], infos: &[ChannelInfo], i: usize, j: usize, k: usize) -> bool
+fn go_together(
+    channels: &[ChannelDescription],
+    infos: &[ChannelInfo],
+    i: usize,
+    j: usize,
+    k: usize,
+) -> bool
     requires within { ⌜ i < length (now channels) ⌝ ∗ ⌜ j < length (now channels) ⌝ ∗ ⌜ k < length (now channels) ⌝ }
     requires listed { ⌜ length (now infos) ≡ length (now channels) ⌝ }
     ensures { λ r. ⌜ r ≡ togetherIn (now (channels .entry)) (now (infos .entry)) i j k ⌝ }
@@ -82,7 +94,11 @@ fn go_together(channels: &[ChannelDescription], infos: &[ChannelInfo], i: usize,
 }
 
 // The triplet of these slots, where one forms.
-fn triplet_in(channels: &[ChannelDescription], infos: &[ChannelInfo], slots: &Slots) -> Option<Triplet>
+fn triplet_in(
+    channels: &[ChannelDescription],
+    infos: &[ChannelInfo],
+    slots: &Slots,
+) -> Option<Triplet>
     requires within { ⌜ Bounded (length (now channels)) (now slots) ⌝ }
     requires listed { ⌜ length (now infos) ≡ length (now channels) ⌝ }
     ensures { λ r. ⌜ r ≡ formedBy (now (channels .entry)) (now (infos .entry)) (now (slots .entry)) ⌝ }
@@ -90,11 +106,20 @@ fn triplet_in(channels: &[ChannelDescription], infos: &[ChannelInfo], slots: &Sl
     let r = slots.r?;
     let g = slots.g?;
     let b = slots.b?;
-    if go_together(channels, infos, r, g, b) { Some(Triplet { r, g, b }) } else { None }
+    if go_together(channels, infos, r, g, b) {
+        Some(Triplet { r, g, b })
+    } else {
+        None
+    }
 }
 
 // Lists the triplets that form, in the order of the known prefixes.
-pub(crate) fn list_triplets(out: &mut Vec<Triplet>, channels: &[ChannelDescription], infos: &[ChannelInfo], known: &[KnownPrefix])
+pub(crate) fn list_triplets(
+    out: &mut Vec<Triplet>,
+    channels: &[ChannelDescription],
+    infos: &[ChannelInfo],
+    known: &[KnownPrefix],
+)
     requires within { ⌜ ((k : ℕ) → k < length (now known) → Bounded (length (now channels)) (getD (now known) k noKnown .slots)) ⌝ }
     requires listed { ⌜ length (now infos) ≡ length (now channels) ⌝ }
     requires empty { ⌜ vec-items (now out) ≡ [] ⌝ }

@@ -39,7 +39,13 @@ impl Slots {
 }
 
 // Tries all rules: the last match gives the scheme, each match with a slot writes the channel there.
-fn apply_rules(text: &[u8], rules: &[Rule], channel: &ChannelDescription, index: usize, slots: &mut Slots) -> CompressorScheme
+fn apply_rules(
+    text: &[u8],
+    rules: &[Rule],
+    channel: &ChannelDescription,
+    index: usize,
+    slots: &mut Slots,
+) -> CompressorScheme
     requires named { ⌜ Inside (now text) (now channel .name) ⌝ }
     requires suffixed { ⌜ Suffixed (now text) (now rules) ⌝ }
     ensures scheme { λ r. ⌜ r ≡ schemeIn (now (text .entry)) (now (rules .entry)) (now (channel .entry)) ⌝ }
@@ -59,7 +65,12 @@ fn apply_rules(text: &[u8], rules: &[Rule], channel: &ChannelDescription, index:
 }
 
 // Where the prefix stands among the known ones.
-fn place_of(text: &[u8], channels: &[ChannelDescription], known: &[KnownPrefix], prefix: &[u8]) -> Option<usize>
+fn place_of(
+    text: &[u8],
+    channels: &[ChannelDescription],
+    known: &[KnownPrefix],
+    prefix: &[u8],
+) -> Option<usize>
     requires named { ⌜ Named (now text) (now channels) ⌝ }
     requires firsts { ⌜ ((k : ℕ) → k < length (now known) → getD (now known) k noKnown .first < length (now channels)) ⌝ }
     ensures { λ r. ⌜ FirstAt (length (now (known .entry))) (λ k. knownBytes (now (text .entry)) (now (channels .entry)) (getD (now (known .entry)) k noKnown) ≡ now (prefix .entry)) r ⌝ }
@@ -73,7 +84,13 @@ fn place_of(text: &[u8], channels: &[ChannelDescription], known: &[KnownPrefix],
 }
 
 // Takes in the channel at `index`: its prefix, put last where it is new, and its rules. Gives its scheme.
-pub(crate) fn meet(text: &[u8], channels: &[ChannelDescription], rules: &[Rule], index: usize, known: &mut Vec<KnownPrefix>) -> CompressorScheme
+pub(crate) fn meet(
+    text: &[u8],
+    channels: &[ChannelDescription],
+    rules: &[Rule],
+    index: usize,
+    known: &mut Vec<KnownPrefix>,
+) -> CompressorScheme
     requires named { ⌜ Named (now text) (now channels) ⌝ }
     requires suffixed { ⌜ Suffixed (now text) (now rules) ⌝ }
     requires within { ⌜ index < length (now channels) ⌝ }
@@ -95,9 +112,16 @@ pub(crate) fn meet(text: &[u8], channels: &[ChannelDescription], rules: &[Rule],
             scheme
         }
         None => {
-            let mut slots = Slots { r: None, g: None, b: None };
+            let mut slots = Slots {
+                r: None,
+                g: None,
+                b: None,
+            };
             let scheme = apply_rules(text, rules, channel, index, &mut slots);
-            known.push_reserved(KnownPrefix { first: index, slots });
+            known.push_reserved(KnownPrefix {
+                first: index,
+                slots,
+            });
             scheme
         }
     }

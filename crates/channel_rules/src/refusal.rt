@@ -65,12 +65,27 @@ pub impl fmt::Display for Concerned as ConcernedDisplay {
 pub impl fmt::Display for Refusal as RefusalDisplay {
     fn fmt<W: fmt::Write>(&self, f: &mut fmt::Formatter<W>) -> fmt::Result {
         match self {
-            Refusal::TooMany => write!(f, "refusal 1: there are more than 64 channels or more than 64 rules"),
+            Refusal::TooMany => write!(
+                f,
+                "refusal 1: there are more than 64 channels or more than 64 rules"
+            ),
             Refusal::ChunkTooLarge => write!(f, "refusal 2: a side of the chunk is above 8192"),
-            Refusal::OutsideText(whom) => write!(f, "refusal 3: the name of {whom} is not a part of the text or is longer than 255 bytes"),
-            Refusal::StepTooLarge(i) => write!(f, "refusal 4: a sampling step of channel {i} is above 8192"),
-            Refusal::NoSuchSlot(i) => write!(f, "refusal 5: the slot of rule {i} is neither none nor 0, 1 or 2"),
-            Refusal::OffStep(i) => write!(f, "refusal 6: the chunk's left or top is not a multiple of a sampling step of channel {i}"),
+            Refusal::OutsideText(whom) => write!(
+                f,
+                "refusal 3: the name of {whom} is not a part of the text or is longer than 255 bytes"
+            ),
+            Refusal::StepTooLarge(i) => write!(
+                f,
+                "refusal 4: a sampling step of channel {i} is above 8192"
+            ),
+            Refusal::NoSuchSlot(i) => write!(
+                f,
+                "refusal 5: the slot of rule {i} is neither none nor 0, 1 or 2"
+            ),
+            Refusal::OffStep(i) => write!(
+                f,
+                "refusal 6: the chunk's left or top is not a multiple of a sampling step of channel {i}"
+            ),
             Refusal::HeldTwice(i) => write!(f, "refusal 7: a triplet would hold channel {i} twice"),
         }
     }

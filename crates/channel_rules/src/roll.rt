@@ -36,7 +36,11 @@ impl Roll {
         let channels = Vec::with_capacity(heap, MOST_CHANNELS)?;
         let triplets = Vec::with_capacity(heap, MOST_CHANNELS)?;
         let prefix_map = Vec::with_capacity(heap, MOST_CHANNELS)?;
-        Ok(Roll { channels, triplets, prefix_map })
+        Ok(Roll {
+            channels,
+            triplets,
+            prefix_map,
+        })
     }
 
     pub fn channels(&self) -> &[ChannelInfo]

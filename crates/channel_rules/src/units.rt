@@ -89,7 +89,11 @@ fn plane_area(info: &ChannelInfo) -> usize
     ensures value { λ r. ⌜ r ≡ planeArea (now (info .entry)) ⌝ }
     ensures bound { λ r. ⌜ r ≤ 67108864 ⌝ }
 {
-    if is_lossy(info) { info.width * info.height } else { 0 }
+    if is_lossy(info) {
+        info.width * info.height
+    } else {
+        0
+    }
 }
 
 impl Roll {
@@ -119,7 +123,11 @@ impl Roll {
         ensures size { λ r. ⌜ (r .width ≡ getD (vec-items (now (self .entry) .channels)) leading noInfo .width) × (r .height ≡ getD (vec-items (now (self .entry) .channels)) leading noInfo .height) ⌝ }
     {
         let info = self.channels[leading];
-        Unit { channels, width: info.width, height: info.height }
+        Unit {
+            channels,
+            width: info.width,
+            height: info.height,
+        }
     }
 
     // Where the plane of a lossy channel begins in the sample buffer; None where the channel has no plane.

@@ -32,7 +32,8 @@ returns-in-Break-check-records c =
       answer = subst (Judged (c .args .text .now) (c .args .channels .now) (c .args .rules .now) (c .args .rectangle .now)) (sym e) (c .in-Break-check-records .ensures tt);
       channels = c .clear .ensures .items ∙ ap (λ r. unlessRefused r (map (infoIn (c .args .text .now) (c .args .rules .now) (c .args .rectangle .now)) (c .args .channels .now))) (sym e);
       triplets = c .clear-2 .ensures .items ∙ ap (λ r. unlessRefused r (tripletsIn (c .args .text .now) (c .args .channels .now) (c .args .rules .now))) (sym e);
-      laws = laws }
+      laws = laws;
+    }
 
 pass : (c : In-Continue-check-records) → Passed (c .args .text .now) (c .args .channels .now) (c .args .rules .now) (c .args .rectangle .now)
 pass c = passed (c .args .text .now) (c .args .channels .now) (c .args .rules .now) (c .args .rectangle .now) (c .in-Continue-check-records .ensures tt)
@@ -40,8 +41,12 @@ pass c = passed (c .args .text .now) (c .args .channels .now) (c .args .rules .n
 pub list-channels-requires : need.list-channels-requires
 list-channels-requires c κs =
     let h = pass (need.at·list-channels-requires c .In-Continue-check-records) in
-    record { named = h .named; suffixed = h .suffixed; empty = (c .clear .ensures .items, c .args .roll .now .idle);
-      room = (omega (arith, h .few, c .clear .ensures .capacity, c .args .roll .now .room .0), omega (arith, h .few, c .args .roll .now .room .2)) }
+    record {
+      named = h .named;
+      suffixed = h .suffixed;
+      empty = (c .clear .ensures .items, c .args .roll .now .idle);
+      room = (omega (arith, h .few, c .clear .ensures .capacity, c .args .roll .now .room .0), omega (arith, h .few, c .args .roll .now .room .2));
+    }
 
 -- the two slices that `list_triplets` is lent
 lent-infos : (c : After-as-slice-2) → c .as-slice .result .now ≡ map (infoIn (c .args .text .now) (c .args .rules .now) (c .args .rectangle .now)) (c .args .channels .now)
@@ -59,7 +64,8 @@ list-triplets-requires c κs =
       within = subst (λ (l : List KnownPrefix). (k : ℕ) → k < length l → Bounded (length chs) (getD l k noKnown .slots)) (sym (c .as-slice-2 .ensures .value)) (known-bounded text chs rules ks (c .list-channels .ensures .met));
       listed = ap length (lent-infos a) ∙ length-map chs (infoIn text rules (c .args .rectangle .now));
       empty = c .clear-2 .ensures .items;
-      room = omega (arith, h .few, c .as-slice-2 .ensures .len, c .list-channels .ensures .short, c .clear-2 .ensures .capacity, c .args .roll .now .room .1) }
+      room = omega (arith, h .few, c .as-slice-2 .ensures .len, c .list-channels .ensures .short, c .clear-2 .ensures .capacity, c .args .roll .now .room .1);
+    }
 
 listed : (c : After-list-triplets) → vec-items (c .list-triplets .last .out) ≡ tripletsIn (c .args .text .now) (c .args .channels .now) (c .args .rules .now)
 listed c =
@@ -77,7 +83,8 @@ returns-in-Some c =
       answer = doubled (c .args .text .now) (c .args .channels .now) (c .args .rules .now) (c .args .rectangle .now) (c .in-Continue-check-records .ensures tt) (c .in-Some .index) d;
       channels = c .clear-in-Some .ensures .items;
       triplets = c .clear-in-Some-2 .ensures .items;
-      laws = laws }
+      laws = laws;
+    }
 
 -- no triplet holds a channel twice
 once : (c : In-rest) → FirstAt (length (c .args .channels .now)) (Doubled (tripletsIn (c .args .text .now) (c .args .channels .now) (c .args .rules .now))) None
@@ -90,7 +97,8 @@ returns c = record {
   answer = accepted (c .args .text .now) (c .args .channels .now) (c .args .rules .now) (c .args .rectangle .now) (c .in-Continue-check-records .ensures tt) (once (need.at·returns c .In-rest));
   channels = c .list-channels .ensures .items;
   triplets = listed (need.at·returns c .After-list-triplets);
-  laws = laws }
+  laws = laws;
+}
 
 pub ghost-roll-in-rest : need.ghost-roll-in-rest
 ghost-roll-in-rest c =
@@ -102,11 +110,23 @@ ghost-roll-in-rest c =
     let e = c .list-channels .ensures .items in
     let t = listed (need.at·ghost-roll-in-rest c .After-list-triplets) in
     let both : Members (vec-items (c .list-channels .last .infos)) (vec-items (c .list-triplets .last .out)) =
-        subst (λ es. Members es (vec-items (c .list-triplets .last .out))) (sym e) (subst (Members (map (infoIn text rules bounds) chs)) (sym t) (members text chs rules bounds)) in
+    subst (λ es. Members es (vec-items (c .list-triplets .last .out))) (sym e) (subst (Members (map (infoIn text rules bounds) chs)) (sym t) (members text chs rules bounds)) in
     let room-channels : 64 ≤ vec-cap (c .list-channels .last .infos) = omega (arith, c .list-channels .ensures .capacity .0, c .clear .ensures .capacity, c .args .roll .now .room .0) in
     let room-triplets : 64 ≤ vec-cap (c .list-triplets .last .out) = omega (arith, c .list-triplets .ensures .capacity, c .clear-2 .ensures .capacity, c .args .roll .now .room .1) in
     let room-map : 64 ≤ vec-cap (c .clear-3 .last .self) = omega (arith, c .clear-3 .ensures .capacity, c .list-channels .ensures .capacity .1, c .args .roll .now .room .2) in
-    let few : length (vec-items (c .list-channels .last .infos)) ≤ 64 = omega (arith, ap length e, length-map chs (infoIn text rules bounds), h .few) in
-    ((room-channels, room-triplets, room-map), (c .clear-3 .ensures .items, (few,
-     (subst Sides (sym e) (sides text chs rules bounds (h .wide) (h .high)), (both,
-     (subst Apart (sym t) (apart text chs rules (once (need.at·ghost-roll-in-rest c .In-rest))), tt))))))
+    let few : length (vec-items (c .list-channels .last .infos)) ≤ 64 = omega (arith, ap length e, length-map chs (infoIn text rules bounds), h .few) in (
+      (room-channels, room-triplets, room-map),
+      (
+        c .clear-3 .ensures .items,
+        (
+          few,
+          (
+            subst Sides (sym e) (sides text chs rules bounds (h .wide) (h .high)),
+            (
+              both,
+              (subst Apart (sym t) (apart text chs rules (once (need.at·ghost-roll-in-rest c .In-rest))), tt),
+            ),
+          ),
+        ),
+      ),
+    )

@@ -20,21 +20,28 @@ loop-met-again c =
     let i = c .loop-met .met-index in
     let old = c .loop-met .out in
     let q : vec-items (c .match-triplet-in .out) ≡ vec-items old ++ listOf (c .triplet-in .result) =
-        elim (c .match-triplet-in .came) [
-          in-Some w ↦ ap vec-items (w .out-is) ∙ w .push-reserved .ensures .items ∙ ap (λ o. vec-items old ++ listOf o) (sym (w .in-Some .is))
-        | in-rest w ↦ ap vec-items (w .out-is) ∙ sym (append-nil (vec-items old)) ∙ ap (λ o. vec-items old ++ listOf o) (sym (w .in-rest .is)) ] in
+    elim (c .match-triplet-in .came) [
+      | in-Some w ↦ ap vec-items (w .out-is) ∙ w .push-reserved .ensures .items ∙ ap (λ o. vec-items old ++ listOf o) (sym (w .in-Some .is))
+      | in-rest w ↦ ap vec-items (w .out-is) ∙ sym (append-nil (vec-items old)) ∙ ap (λ o. vec-items old ++ listOf o) (sym (w .in-rest .is))
+    ] in
     let n : vec-len (c .match-triplet-in .out) ≤ i + 1 =
-        elim (c .match-triplet-in .came) [
-          in-Some w ↦ omega (arith, ap vec-len (w .out-is), w .push-reserved .ensures .len, c .loop-met .inv .1)
-        | in-rest w ↦ omega (arith, ap vec-len (w .out-is), c .loop-met .inv .1) ] in
+    elim (c .match-triplet-in .came) [
+      | in-Some w ↦ omega (arith, ap vec-len (w .out-is), w .push-reserved .ensures .len, c .loop-met .inv .1)
+      | in-rest w ↦ omega (arith, ap vec-len (w .out-is), c .loop-met .inv .1)
+    ] in
     let k : vec-cap (c .match-triplet-in .out) ≡ vec-cap (c .args .out .now) =
-        elim (c .match-triplet-in .came) [
-          in-Some w ↦ ap vec-cap (w .out-is) ∙ w .push-reserved .ensures .capacity ∙ c .loop-met .inv .2
-        | in-rest w ↦ ap vec-cap (w .out-is) ∙ c .loop-met .inv .2 ] in
-    (q ∙ ap (λ o. vec-items old ++ listOf o) (c .triplet-in .ensures)
-     ∙ ap (λ l. l ++ f (getD ks i noKnown)) (c .loop-met .inv .0) ∙ sym (joined-step f ks i noKnown (c .loop-met-test .taken)), n, k)
+    elim (c .match-triplet-in .came) [
+      | in-Some w ↦ ap vec-cap (w .out-is) ∙ w .push-reserved .ensures .capacity ∙ c .loop-met .inv .2
+      | in-rest w ↦ ap vec-cap (w .out-is) ∙ c .loop-met .inv .2
+    ] in (
+      q ∙ ap (λ o. vec-items old ++ listOf o) (c .triplet-in .ensures)
+          ∙ ap (λ l. l ++ f (getD ks i noKnown)) (c .loop-met .inv .0) ∙ sym (joined-step f ks i noKnown (c .loop-met-test .taken)),
+      n,
+      k,
+    )
 
 pub returns : need.returns
 returns c = record {
   items = simp (take-all (c .loop-met .met-index) (c .args .known .now) (omega arith)) at (c .loop-met .inv .0);
-  capacity = c .loop-met .inv .2 }
+  capacity = c .loop-met .inv .2;
+}

@@ -37,17 +37,19 @@ returns-in-Some c =
     let slots : c .index-in-Some .result .now ≡ getD ks at noKnown = getD-read ks at (c .index-in-Some .result .now) (here .0) (c .index-in-Some .ensures) noKnown in
     let new : KnownPrefix = record { first = getD ks at noKnown .first; slots = stamped text rules own (c .args .index) (getD ks at noKnown .slots) } in
     let s : c .apply-rules-scheme .last .slots ≡ new .slots =
-        c .apply-rules-scheme .ensures .slots ∙ ap (λ k. stamped text rules own (c .args .index) (k .slots)) slots in
+    c .apply-rules-scheme .ensures .slots ∙ ap (λ k. stamped text rules own (c .args .index) (k .slots)) slots in
     let n : record { first = c .index .result .now .first; slots = c .apply-rules-scheme .last .slots } ≡ new =
-        ap (λ (k : KnownPrefix). record { first = k .first; slots = c .apply-rules-scheme .last .slots }) first ∙ ap (λ (x : Slots). record { first = getD ks at noKnown .first; slots = x }) s in
+    ap (λ (k : KnownPrefix). record { first = k .first; slots = c .apply-rules-scheme .last .slots }) first ∙ ap (λ (x : Slots). record { first = getD ks at noKnown .first; slots = x }) s in
     let done : Met text chs rules (c .args .index + 1) (set ks at new) = record {
-          firsts = firsts-set (length chs) ks at new (c .pre .met .firsts) (c .pre .met .firsts at (here .0));
-          views = met-old text chs rules (c .args .index) (c .pre .within) ks (c .pre .met .views) at (here .0) (here .1) } in
+      firsts = firsts-set (length chs) ks at new (c .pre .met .firsts) (c .pre .met .firsts at (here .0));
+      views = met-old text chs rules (c .args .index) (c .pre .within) ks (c .pre .met .views) at (here .0) (here .1);
+    } in
     record {
       scheme = c .apply-rules-scheme .ensures .scheme;
       met = subst (λ k. Met text chs rules (c .args .index + 1) (set ks at k)) (sym n) done;
       short = omega (arith, c .pre .short);
-      capacity = refl }
+      capacity = refl;
+    }
 
 pub returns-in-None : need.returns-in-None
 returns-in-None c =
@@ -59,12 +61,14 @@ returns-in-None c =
     let nowhere = said text chs None (c .as-slice .ensures .value) (c .prefix .ensures .value) (c .in-None .ensures tt) in
     let new : KnownPrefix = record { first = c .args .index; slots = stamped text rules own (c .args .index) noSlots } in
     let n : record { first = c .args .index; slots = c .apply-rules-scheme-in-None .last .slots } ≡ new =
-        ap (λ (x : Slots). record { first = c .args .index; slots = x }) (c .apply-rules-scheme-in-None .ensures .slots) in
+    ap (λ (x : Slots). record { first = c .args .index; slots = x }) (c .apply-rules-scheme-in-None .ensures .slots) in
     let done : Met text chs rules (c .args .index + 1) (ks ++ new ∷ []) = record {
-          firsts = firsts-push (length chs) ks new (c .pre .met .firsts) (c .pre .within);
-          views = met-new text chs rules (c .args .index) (c .pre .within) ks (c .pre .met .views) nowhere } in
+      firsts = firsts-push (length chs) ks new (c .pre .met .firsts) (c .pre .within);
+      views = met-new text chs rules (c .args .index) (c .pre .within) ks (c .pre .met .views) nowhere;
+    } in
     record {
       scheme = c .apply-rules-scheme-in-None .ensures .scheme;
       met = subst (Met text chs rules (c .args .index + 1)) (sym (c .push-reserved .ensures .items ∙ ap (λ k. ks ++ k ∷ []) n)) done;
       short = omega (arith, c .pre .short, c .push-reserved .ensures .len);
-      capacity = c .push-reserved .ensures .capacity }
+      capacity = c .push-reserved .ensures .capacity;
+    }

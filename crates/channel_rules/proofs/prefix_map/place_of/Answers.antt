@@ -5,10 +5,11 @@ use Rattle.channel_rules.proofs.Picks.{nope}
 use Rattle.channel_rules.proofs.prefix_map.place_of.Needs as need
 
 pub returns-then-eq : need.returns-then-eq
-returns-then-eq c =
-    (c .loop-place-test .taken,
-     sym (c .prefix .ensures .value) ∙ matches-decides (c .prefix .result .now) (c .args .prefix .now) (c .eq .result) (c .eq .ensures) .0 (c .if-eq .taken),
-     c .loop-place .inv)
+returns-then-eq c = (
+  c .loop-place-test .taken,
+  sym (c .prefix .ensures .value) ∙ matches-decides (c .prefix .result .now) (c .args .prefix .now) (c .eq .result) (c .eq .ensures) .0 (c .if-eq .taken),
+  c .loop-place .inv,
+)
 
 pub loop-place-again : need.loop-place-again
 loop-place-again c =

@@ -24,12 +24,13 @@ loop-channel-again c =
     let n = length (c .args .infos .now) in
     let i = c .loop-channel .channel in
     elim (c .if-is-lone .came) [
-      then-is-lone·else-before-eq0 w ↦
-        (let more = count-more test n i true (c .loop-channel-test .taken) (sym (c .is-lone .ensures) ∙ w .if-is-lone .taken) in
-         omega (arith, w .before-is, w .if-before-eq0 .left, c .loop-channel .inv))
-    | else-is-lone w ↦
-        (let more = count-more test n i false (c .loop-channel-test .taken) (sym (c .is-lone .ensures) ∙ w .if-is-lone .left) in
-         omega (arith, w .before-is, c .loop-channel .inv)) ]
+      | then-is-lone·else-before-eq0 w ↦
+          (let more = count-more test n i true (c .loop-channel-test .taken) (sym (c .is-lone .ensures) ∙ w .if-is-lone .taken) in
+          omega (arith, w .before-is, w .if-before-eq0 .left, c .loop-channel .inv))
+      | else-is-lone w ↦
+          (let more = count-more test n i false (c .loop-channel-test .taken) (sym (c .is-lone .ensures) ∙ w .if-is-lone .left) in
+          omega (arith, w .before-is, c .loop-channel .inv))
+    ]
 
 pub returns : need.returns
 returns c =

@@ -14,14 +14,16 @@ loop-channel-again c =
     let n = length (c .args .infos .now) in
     let i = c .loop-channel .channel in
     elim (c .if-is-lone .came) [
-      then-is-lone w ↦
-        (let more = count-more test n i true (c .loop-channel-test .taken) (sym (c .is-lone .ensures) ∙ w .if-is-lone .taken) in
-         (omega (arith, w .count-is, c .loop-channel .inv .0), omega (arith, w .count-is, c .loop-channel .inv .1)))
-    | else-is-lone w ↦
-        (let more = count-more test n i false (c .loop-channel-test .taken) (sym (c .is-lone .ensures) ∙ w .if-is-lone .left) in
-         (omega (arith, w .count-is, c .loop-channel .inv .0), omega (arith, w .count-is, c .loop-channel .inv .1))) ]
+      | then-is-lone w ↦
+          (let more = count-more test n i true (c .loop-channel-test .taken) (sym (c .is-lone .ensures) ∙ w .if-is-lone .taken) in
+          (omega (arith, w .count-is, c .loop-channel .inv .0), omega (arith, w .count-is, c .loop-channel .inv .1)))
+      | else-is-lone w ↦
+          (let more = count-more test n i false (c .loop-channel-test .taken) (sym (c .is-lone .ensures) ∙ w .if-is-lone .left) in
+          (omega (arith, w .count-is, c .loop-channel .inv .0), omega (arith, w .count-is, c .loop-channel .inv .1)))
+    ]
 
 pub returns : need.returns
 returns c = record {
   value = c .loop-channel .inv .0 ∙ ap length (kept-all (isLone (c .args .infos .now) (c .args .triplets .now)) (length (c .args .infos .now)) (c .loop-channel .channel) (omega arith));
-  few = omega (arith, c .loop-channel .inv .1) }
+  few = omega (arith, c .loop-channel .inv .1);
+}

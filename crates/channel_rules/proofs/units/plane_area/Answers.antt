@@ -7,4 +7,5 @@ use Rattle.channel_rules.proofs.units.plane_area.Needs as need
 pub returns-then-is-lossy : need.returns-then-is-lossy
 returns-then-is-lossy c = record {
   value = ap (λ b. cond b (c .args .info .now .width * c .args .info .now .height) 0) (c .if-is-lossy .ensures tt);
-  bound = mul-le-mul (c .pre .0) (c .pre .1) }
+  bound = mul-le-mul (c .pre .0) (c .pre .1);
+}

@@ -24,7 +24,8 @@ samples-of-requires c κs =
     let e = front n (c .as-slice-infos .ensures .value) in
     record {
       few = omega (arith, ap length e, length-take-le n es (omega arith), c .args .self .now .few);
-      sides = subst Sides (sym e) (sides-take n es (omega arith) (c .args .self .now .sides)) }
+      sides = subst Sides (sym e) (sides-take n es (omega arith) (c .args .self .now .sides));
+    }
 
 pub returns-then-is-lossy : need.returns-then-is-lossy
 returns-then-is-lossy c =
@@ -32,7 +33,9 @@ returns-then-is-lossy c =
     let n = c .args .channel in
     let h : n < length es = inside (need.at·returns-then-is-lossy c .Then-is-lossy) in
     let s : c .samples-of .result ≡ planeStart es n = c .samples-of .ensures .value ∙ ap totalSamples (front n (c .as-slice-infos .ensures .value)) in
-    let lossy = sym (ap (λ (l : List ChannelInfo). isLossy (getD l n noInfo .scheme)) (c .as-slice-infos .ensures .value)) ∙ sym (c .if-is-lossy .ensures tt) in
-    ((h, lossy), s,
-     subst (λ k. k + planeArea (getD es n noInfo) ≤ totalSamples es) (sym s) (within-total es n h),
-     λ j l. subst (λ k. k + planeArea (getD es n noInfo) ≤ planeStart es j) (sym s) (before-later es n j h l))
+    let lossy = sym (ap (λ (l : List ChannelInfo). isLossy (getD l n noInfo .scheme)) (c .as-slice-infos .ensures .value)) ∙ sym (c .if-is-lossy .ensures tt) in (
+      (h, lossy),
+      s,
+      subst (λ k. k + planeArea (getD es n noInfo) ≤ totalSamples es) (sym s) (within-total es n h),
+      λ j l. subst (λ k. k + planeArea (getD es n noInfo) ≤ planeStart es j) (sym s) (before-later es n j h l),
+    )

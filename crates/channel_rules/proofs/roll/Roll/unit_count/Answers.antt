@@ -14,7 +14,7 @@ returns c =
     let es = vec-items (c .args .self .now .channels) in
     let ts = vec-items (c .args .self .now .triplets) in
     let l : c .lone-count .result ≡ length (lonesIn es ts) =
-        c .lone-count .ensures .value
-        ∙ ap (λ (x : List ChannelInfo). length (lonesIn x (c .as-slice-2 .result .now))) (c .as-slice .ensures .value)
-        ∙ ap (λ (x : List Triplet). length (lonesIn es x)) (c .as-slice-2 .ensures .value) in
+    c .lone-count .ensures .value
+    ∙ ap (λ (x : List ChannelInfo). length (lonesIn x (c .as-slice-2 .result .now))) (c .as-slice .ensures .value)
+    ∙ ap (λ (x : List Triplet). length (lonesIn es x)) (c .as-slice-2 .ensures .value) in
     omega (arith, count es ts, c .len .ensures, c .args .self .now .triplets .ok .0)
