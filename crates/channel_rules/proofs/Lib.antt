@@ -5,9 +5,6 @@ mod Keeping
 mod Lawful
 mod Matched
 mod OneRule
-mod Ordered
 mod Pairs
-mod Picks
-mod Planes
-mod Ranked
+pub mod Picks
 mod Splitting

@@ -5,7 +5,6 @@ pub mod Triplets
 pub mod Sides
 pub mod Refusals
 pub mod Kept
-pub mod Units
 pub mod Laws
 pub mod Cards
 pub mod PrefixMap

@@ -9,8 +9,6 @@ mod prefix_map;
 mod records;
 mod refusal;
 mod roll;
-mod unit;
-mod units;
 
 pub use cards::cards_stand;
 pub use classify::classify_channels;
@@ -27,5 +25,3 @@ pub use refusal::ConcernedDisplay;
 pub use refusal::Refusal;
 pub use refusal::RefusalDisplay;
 pub use roll::Roll;
-pub use unit::Unit;
-pub use unit::UnitChannels;

@@ -59,12 +59,14 @@ pub(crate) fn list_channels(
     }
 }
 
-pub(crate) fn is_lossy(info: &ChannelInfo) -> bool
-    ensures { λ r. ⌜ r ≡ isLossy (now (info .entry) .scheme) ⌝ }
-{
-    match info.scheme {
-        CompressorScheme::LossyDct => true,
-        CompressorScheme::Unknown | CompressorScheme::Rle => false,
+impl ChannelInfo {
+    pub fn is_lossy(&self) -> bool
+        ensures { λ r. ⌜ r ≡ isLossy (now (self .entry) .scheme) ⌝ }
+    {
+        match self.scheme {
+            CompressorScheme::LossyDct => true,
+            CompressorScheme::Unknown | CompressorScheme::Rle => false,
+        }
     }
 }
 
@@ -86,9 +88,9 @@ fn go_together(
     requires listed { ⌜ length (now infos) ≡ length (now channels) ⌝ }
     ensures { λ r. ⌜ r ≡ togetherIn (now (channels .entry)) (now (infos .entry)) i j k ⌝ }
 {
-    is_lossy(&infos[i])
-        && is_lossy(&infos[j])
-        && is_lossy(&infos[k])
+    infos[i].is_lossy()
+        && infos[j].is_lossy()
+        && infos[k].is_lossy()
         && have_same_steps(&channels[i], &channels[j])
         && have_same_steps(&channels[i], &channels[k])
 }

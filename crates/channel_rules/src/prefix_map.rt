@@ -25,6 +25,12 @@ pub(crate) struct KnownPrefix {
     pub(crate) slots: Slots,
 }
 
+const NO_SLOTS: Slots = Slots {
+    r: None,
+    g: None,
+    b: None,
+};
+
 impl Slots {
     fn put(&mut self, slot: usize, index: usize)
         ensures { λ _. ⌜ now (self .exit) ≡ putAt slot index (now (self .entry)) ⌝ }
@@ -112,16 +118,10 @@ pub(crate) fn meet(
             scheme
         }
         None => {
-            let mut slots = Slots {
-                r: None,
-                g: None,
-                b: None,
-            };
+            let first = index;
+            let mut slots = NO_SLOTS;
             let scheme = apply_rules(text, rules, channel, index, &mut slots);
-            known.push_reserved(KnownPrefix {
-                first: index,
-                slots,
-            });
+            known.push_reserved(KnownPrefix { first, slots });
             scheme
         }
     }

@@ -50,43 +50,36 @@ impl Refusal {
             Refusal::HeldTwice(channel) => Concerned::Channel(channel),
         }
     }
+
+    fn reason(&self) -> &'static str {
+        match self {
+            Refusal::TooMany => "there are more than 64 channels or more than 64 rules",
+            Refusal::ChunkTooLarge => "a side of the chunk is above 8192",
+            Refusal::OutsideText(_) =>
+                "the name is not a part of the text or is longer than 255 bytes",
+            Refusal::StepTooLarge(_) => "a sampling step is above 8192",
+            Refusal::NoSuchSlot(_) => "the slot is neither none nor 0, 1 or 2",
+            Refusal::OffStep(_) => "the chunk's left or top is no multiple of a sampling step",
+            Refusal::HeldTwice(_) => "a triplet would hold the channel twice",
+        }
+    }
 }
 
 pub impl fmt::Display for Concerned as ConcernedDisplay {
     fn fmt<W: fmt::Write>(&self, f: &mut fmt::Formatter<W>) -> fmt::Result {
         match self {
-            Concerned::Nothing => write!(f, "the chunk"),
+            Concerned::Nothing => f.write_str("the chunk"),
             Concerned::Channel(i) => write!(f, "channel {i}"),
-            Concerned::Rule(i) => write!(f, "rule {i}"),
+            Concerned::Rule(j) => write!(f, "rule {j}"),
         }
     }
 }
 
 pub impl fmt::Display for Refusal as RefusalDisplay {
     fn fmt<W: fmt::Write>(&self, f: &mut fmt::Formatter<W>) -> fmt::Result {
-        match self {
-            Refusal::TooMany => write!(
-                f,
-                "refusal 1: there are more than 64 channels or more than 64 rules"
-            ),
-            Refusal::ChunkTooLarge => write!(f, "refusal 2: a side of the chunk is above 8192"),
-            Refusal::OutsideText(whom) => write!(
-                f,
-                "refusal 3: the name of {whom} is not a part of the text or is longer than 255 bytes"
-            ),
-            Refusal::StepTooLarge(i) => write!(
-                f,
-                "refusal 4: a sampling step of channel {i} is above 8192"
-            ),
-            Refusal::NoSuchSlot(i) => write!(
-                f,
-                "refusal 5: the slot of rule {i} is neither none nor 0, 1 or 2"
-            ),
-            Refusal::OffStep(i) => write!(
-                f,
-                "refusal 6: the chunk's left or top is not a multiple of a sampling step of channel {i}"
-            ),
-            Refusal::HeldTwice(i) => write!(f, "refusal 7: a triplet would hold channel {i} twice"),
-        }
+        let number = self.number();
+        let whom = self.concerned();
+        let why = self.reason();
+        write!(f, "refusal {number}, {whom}: {why}")
     }
 }

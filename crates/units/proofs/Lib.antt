@@ -1,0 +1,3 @@
+mod EndToEnd
+mod Ordered
+mod Ranked
