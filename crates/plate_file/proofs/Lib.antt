@@ -1,0 +1,3 @@
+mod HexPairs
+mod DigitSums
+mod Pushed
