@@ -6,5 +6,4 @@ pub mod Sides
 pub mod Refusals
 pub mod Kept
 pub mod Laws
-pub mod Cards
 pub mod PrefixMap

@@ -1,5 +1,4 @@
 // Classifies the channels of a chunk into a roll, by their names.
-mod cards;
 mod checks;
 mod classify;
 mod listing;
@@ -9,8 +8,8 @@ mod prefix_map;
 mod records;
 mod refusal;
 mod roll;
+mod shown;
 
-pub use cards::cards_stand;
 pub use classify::classify_channels;
 pub use records::ChannelDescription;
 pub use records::ChannelInfo;
@@ -25,3 +24,5 @@ pub use refusal::ConcernedDisplay;
 pub use refusal::Refusal;
 pub use refusal::RefusalDisplay;
 pub use roll::Roll;
+pub use shown::CompressorSchemeDisplay;
+pub use shown::SampleTypeDisplay;

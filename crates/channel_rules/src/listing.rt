@@ -59,15 +59,10 @@ pub(crate) fn list_channels(
     }
 }
 
-impl ChannelInfo {
-    pub fn is_lossy(&self) -> bool
-        ensures { λ r. ⌜ r ≡ isLossy (now (self .entry) .scheme) ⌝ }
-    {
-        match self.scheme {
-            CompressorScheme::LossyDct => true,
-            CompressorScheme::Unknown | CompressorScheme::Rle => false,
-        }
-    }
+fn is_lossy(info: &ChannelInfo) -> bool
+    ensures { λ r. ⌜ r ≡ isLossy (now (info .entry) .scheme) ⌝ }
+{
+    matches!(info.scheme, CompressorScheme::LossyDct)
 }
 
 fn have_same_steps(a: &ChannelDescription, b: &ChannelDescription) -> bool
@@ -88,9 +83,9 @@ fn go_together(
     requires listed { ⌜ length (now infos) ≡ length (now channels) ⌝ }
     ensures { λ r. ⌜ r ≡ togetherIn (now (channels .entry)) (now (infos .entry)) i j k ⌝ }
 {
-    infos[i].is_lossy()
-        && infos[j].is_lossy()
-        && infos[k].is_lossy()
+    is_lossy(&infos[i])
+        && is_lossy(&infos[j])
+        && is_lossy(&infos[k])
         && have_same_steps(&channels[i], &channels[j])
         && have_same_steps(&channels[i], &channels[k])
 }

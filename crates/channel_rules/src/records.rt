@@ -9,7 +9,7 @@ pub enum SampleType {
 }
 
 // How a channel is compressed in the chunk.
-#[derive(Clone, Copy, PartialEq, Eq)]
+#[derive(Clone, Copy)]
 pub enum CompressorScheme {
     Unknown,
     LossyDct,

@@ -4,7 +4,7 @@ use channel_rules::CompressorScheme;
 use channel_rules::SampleType;
 
 // The word that a line begins with.
-#[derive(Clone, Copy, PartialEq, Eq, Debug)]
+#[derive(Clone, Copy)]
 pub(crate) enum Keyword {
     Rectangle,
     Channel,

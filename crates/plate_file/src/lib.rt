@@ -15,19 +15,8 @@ mod streams;
 pub use parse::parse_plate;
 pub use plate::Plate;
 pub use problem::Malformed;
-pub use problem::MalformedDebug;
 pub use problem::MalformedDisplay;
-pub use problem::MalformedEq;
-pub use problem::MalformedPartialEq;
 pub use problem::Problem;
-pub use problem::ProblemDebug;
 pub use problem::ProblemDisplay;
-pub use problem::ProblemEq;
-pub use problem::ProblemPartialEq;
 pub use shown::Quoted;
 pub use shown::QuotedDisplay;
-pub use shown::sample_type_word;
-pub use shown::scheme_word;
-
-#[cfg(test)]
-mod tests;

@@ -4,7 +4,7 @@ use std::alloc::AllocError;
 use std::alloc::Refused;
 use std::fmt;
 
-#[derive(Clone, Copy, PartialEq, Eq, Debug)]
+#[derive(Clone, Copy)]
 pub enum Problem {
     NotAPlate,
     UnknownWord,
@@ -42,7 +42,8 @@ impl Problem {
             Problem::MissingStream => "a stream is missing",
             Problem::BadStreamWord => "a word of the stream is not four lower-case hex digits",
             Problem::TooFewWords => "the stream has fewer words than its count says",
-            Problem::TooManyWords => "something stands after the last word that the stream's count allows",
+            Problem::TooManyWords =>
+                "something stands after the last word that the stream's count allows",
             Problem::OutOfPlace => "a line of this kind may not stand after a stream",
             Problem::OutOfMemory => "there is not enough memory",
         }
@@ -77,7 +78,7 @@ pub impl From<NumberFault> for Problem as ProblemFromNumber {
 }
 
 // The first fault of a file, and the line that it stands on, counted from 1.
-#[derive(Clone, Copy, PartialEq, Eq, Debug)]
+#[derive(Clone, Copy)]
 pub struct Malformed {
     pub line: usize,
     pub problem: Problem,

@@ -1,16 +1,16 @@
 // `plates roll`: the roll of each plate.
 use channel_rules::ChannelDescription;
 use channel_rules::ChannelInfo;
+use channel_rules::CompressorSchemeDisplay;
 use channel_rules::RefusalDisplay;
 use channel_rules::Roll;
+use channel_rules::SampleTypeDisplay;
 use channel_rules::classify_channels;
 use plate_file::MalformedDisplay;
 use plate_file::Plate;
 use plate_file::Quoted;
 use plate_file::QuotedDisplay;
 use plate_file::parse_plate;
-use plate_file::sample_type_word;
-use plate_file::scheme_word;
 use std::alloc::Global;
 use std::env::Args;
 use std::error::AnyError;
@@ -36,8 +36,7 @@ pub fn roll_command(rt: &LibcRuntime, files: Args<Global>) -> Result<(), AnyErro
         return Err("name the plate files to read".into());
     }
     if failed > 0 {
-        eprintln!(rt, "{failed} of {tried} plates could not be classified")?;
-        return Err("not all plates were classified".into());
+        return Err(format!(rt.alloc(), "{failed} of {tried} plates gave no roll")?.into());
     }
     Ok(())
 }
@@ -64,7 +63,13 @@ fn print_file(rt: &LibcRuntime, roll: &mut Roll, file: &str) -> io::Result<bool>
 fn print_plate(rt: &LibcRuntime, roll: &mut Roll, plate: &Plate) -> io::Result<bool> {
     let text = plate.text.as_slice();
     let channels = plate.channels.as_slice();
-    if let Err(refusal) = classify_channels(roll, text, channels, plate.rules.as_slice(), &plate.rectangle) {
+    if let Err(refusal) = classify_channels(
+        roll,
+        text,
+        channels,
+        plate.rules.as_slice(),
+        &plate.rectangle,
+    ) {
         println!(rt, "{refusal}")?;
         return Ok(false);
     }
@@ -79,14 +84,22 @@ fn print_plate(rt: &LibcRuntime, roll: &mut Roll, plate: &Plate) -> io::Result<b
     Ok(true)
 }
 
-fn print_channels(rt: &LibcRuntime, text: &[u8], channels: &[ChannelDescription], infos: &[ChannelInfo]) -> io::Result<()> {
+fn print_channels(
+    rt: &LibcRuntime,
+    text: &[u8],
+    channels: &[ChannelDescription],
+    infos: &[ChannelInfo],
+) -> io::Result<()> {
     for (i, (channel, info)) in channels.iter().zip(infos.iter()).enumerate() {
         let name = Quoted(name_of(text, channel));
-        let sample_type = sample_type_word(info.sample_type);
-        let scheme = scheme_word(info.scheme);
+        let sample_type = info.sample_type;
+        let scheme = info.scheme;
         let width = info.width;
         let height = info.height;
-        println!(rt, "channel {i} {name} {sample_type} {scheme} {width}x{height}")?;
+        println!(
+            rt,
+            "channel {i} {name} {sample_type} {scheme} {width}x{height}"
+        )?;
     }
     Ok(())
 }
@@ -117,8 +130,14 @@ fn print_unit(rt: &LibcRuntime, k: usize, unit: &Unit) -> io::Result<()> {
             let r = t.r;
             let g = t.g;
             let b = t.b;
-            println!(rt, "unit {k} triplet {r} {g} {b} size {width}x{height} blocks {wide}x{high}")
+            println!(
+                rt,
+                "unit {k} triplet {r} {g} {b} size {width}x{height} blocks {wide}x{high}"
+            )
         }
-        UnitChannels::Lone(i) => println!(rt, "unit {k} lone {i} size {width}x{height} blocks {wide}x{high}"),
+        UnitChannels::Lone(i) => println!(
+            rt,
+            "unit {k} lone {i} size {width}x{height} blocks {wide}x{high}"
+        ),
     }
 }

@@ -1,5 +1,0 @@
-use mathlib.Core.Path.{refl}
-use Rattle.channel_rules.proofs.cards.cards_stand.Needs as need
-
-pub returns : need.returns
-returns c = record { stand = record { forms = refl; widths = refl; heights = refl; apart = refl }; count = refl }
