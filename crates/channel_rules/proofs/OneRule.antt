@@ -15,14 +15,8 @@ use Rattle.channel_rules.specs.declared.prefix_map.Slots.{Slots}
 use Rattle.channel_rules.specs.Picks.{LastAt, lastPlace}
 use Rattle.channel_rules.specs.Rules.{isFor}
 use Rattle.channel_rules.specs.Triplets.{noRule, isSlot, schemeAt, schemeIn, writes}
-use Rattle.channel_rules.specs.PrefixMap.{putAt, stamp, stamped}
+use Rattle.channel_rules.specs.PrefixMap.{ruled, stamp, stamped}
 use Rattle.channel_rules.proofs.Picks.{lastPlace-more, lastPlace-is, some-more}
-
--- what a rule that matches or not, and has the slot o, does
-abbrev pub ruled : Bool → Option ℕ → ℕ → Slots → Slots
-ruled false o i s = s
-ruled true None i s = s
-ruled true (Some slot) i s = putAt slot i s
 
 over : (a w : Bool) (x y : Option ℕ) → cond a x (cond w x y) ≡ cond (w || a) x y
 over true true x y = refl

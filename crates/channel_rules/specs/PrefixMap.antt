@@ -1,7 +1,7 @@
--- The prefixes met midway through the channels, with the holders of their slots.
+-- The prefixes met midway through the channels, with the holders of their slots. Only inner contracts cite this.
 use mathlib.Core.Path.{_≡_}
 use mathlib.Core.List.{List, map}
-use mathlib.Core.Bool.{Bool, cond, _&&_}
+use mathlib.Core.Bool.{Bool, true, false, cond, _&&_}
 use Prim.Native.Nat.{ℕ, _<_}
 use lib.ListN.{length, getD, take}
 use lib.Dec.{eqb}
@@ -33,6 +33,12 @@ putAt slot index s = record {
   g = cond (eqb slot 1) (Some index) (s .g);
   b = cond (eqb slot 2) (Some index) (s .b);
 }
+
+-- the channel written into the slot of a rule that matches and has one
+abbrev pub ruled : Bool → Option ℕ → ℕ → Slots → Slots
+ruled false slot index s = s
+ruled true None index s = s
+ruled true (Some slot) index s = putAt slot index s
 
 -- the channel written into those slots that are marked
 abbrev pub stamp : Bool → Bool → Bool → ℕ → Slots → Slots

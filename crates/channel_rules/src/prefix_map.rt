@@ -1,12 +1,13 @@
 // The prefixes met so far, in the order of their first appearance, each with the channels that hold its slots.
 ghost use mathlib.Core.Path.{_≡_};
+ghost use mathlib.Core.Bool.{cond};
 ghost use Prim.Native.Nat.{ℕ, _+_, _≤_, _<_};
 ghost use lib.ListN.{length, getD};
 ghost use Rattle.std.specs.Of.Vec.{vec-items, vec-len, vec-cap};
 ghost use Rattle.channel_rules.specs.Names.{Inside};
 ghost use Rattle.channel_rules.specs.Picks.{FirstAt};
 ghost use Rattle.channel_rules.specs.Triplets.{noChannel, Named, Suffixed, schemeIn};
-ghost use Rattle.channel_rules.specs.PrefixMap.{noKnown, putAt, stamped, knownBytes, Met};
+ghost use Rattle.channel_rules.specs.PrefixMap.{noKnown, putAt, ruled, stamped, knownBytes, Met};
 use crate::records::ChannelDescription;
 use crate::records::CompressorScheme;
 use crate::records::Rule;
@@ -44,6 +45,25 @@ impl Slots {
     }
 }
 
+// What one rule does: where it matches, it gives its scheme and writes the channel into its slot.
+fn apply_rule(
+    rule: &Rule,
+    matches: bool,
+    index: usize,
+    scheme: &mut CompressorScheme,
+    slots: &mut Slots,
+)
+    ensures scheme { λ _. ⌜ now (scheme .exit) ≡ cond matches (now (rule .entry) .scheme) (now (scheme .entry)) ⌝ }
+    ensures slots { λ _. ⌜ now (slots .exit) ≡ ruled matches (now (rule .entry) .«csc_index») index (now (slots .entry)) ⌝ }
+{
+    if matches {
+        *scheme = rule.scheme;
+        if let Some(slot) = rule.csc_index {
+            slots.put(slot, index);
+        }
+    }
+}
+
 // Tries all rules: the last match gives the scheme, each match with a slot writes the channel there.
 fn apply_rules(
     text: &[u8],
@@ -60,12 +80,8 @@ fn apply_rules(
     let suffix = channel.suffix(text);
     let mut scheme = CompressorScheme::Unknown;
     for rule in rules {
-        if rule.matches(text, suffix, channel.sample_type) {
-            scheme = rule.scheme;
-            if let Some(slot) = rule.csc_index {
-                slots.put(slot, index);
-            }
-        }
+        let matches = rule.matches(text, suffix, channel.sample_type);
+        apply_rule(rule, matches, index, &mut scheme, slots);
     }
     scheme
 }

@@ -56,7 +56,7 @@ impl Refusal {
             Refusal::TooMany => "there are more than 64 channels or more than 64 rules",
             Refusal::ChunkTooLarge => "a side of the chunk is above 8192",
             Refusal::OutsideText(_) =>
-                "the name is not a part of the text or is longer than 255 bytes",
+                "the name or suffix is not a part of the text or is longer than 255 bytes",
             Refusal::StepTooLarge(_) => "a sampling step is above 8192",
             Refusal::NoSuchSlot(_) => "the slot is neither none nor 0, 1 or 2",
             Refusal::OffStep(_) => "the chunk's left or top is no multiple of a sampling step",
