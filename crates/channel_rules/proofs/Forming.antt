@@ -19,9 +19,8 @@ use Rattle.channel_rules.specs.declared.records.Triplet.{Triplet}
 use Rattle.channel_rules.specs.declared.prefix_map.Slots.{Slots}
 use Rattle.channel_rules.specs.declared.prefix_map.KnownPrefix.{KnownPrefix}
 use Rattle.channel_rules.specs.Picks.{LastAt}
-use Rattle.channel_rules.specs.Triplets.{noChannel, isLossy, filledBy, holder, sameSteps, lossyAt, goTogether, three, prefixesIn, tripletOf, tripletsIn}
+use Rattle.channel_rules.specs.Triplets.{noChannel, noInfo, isLossy, filledBy, holder, sameSteps, lossyAt, goTogether, three, prefixesIn, tripletOf, tripletsIn}
 use Rattle.channel_rules.specs.Sides.{infoIn}
-use Rattle.channel_rules.specs.Kept.{noInfo}
 use Rattle.channel_rules.specs.PrefixMap.{noSlots, noKnown, slotsOf, knownBytes, mapIn, Met, Bounded, togetherIn, formedBy, formedOf}
 use Rattle.channel_rules.proofs.Picks.{lastPlace-is}
 

@@ -3,7 +3,4 @@ pub mod Rules
 pub mod Picks
 pub mod Triplets
 pub mod Sides
-pub mod Refusals
-pub mod Kept
-pub mod Laws
 pub mod PrefixMap

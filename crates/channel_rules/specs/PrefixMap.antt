@@ -17,8 +17,7 @@ use Rattle.channel_rules.specs.declared.records.Triplet.{Triplet}
 use Rattle.channel_rules.specs.declared.prefix_map.Slots.{Slots}
 use Rattle.channel_rules.specs.declared.prefix_map.KnownPrefix.{KnownPrefix}
 use Rattle.channel_rules.specs.Names.{prefixIn}
-use Rattle.channel_rules.specs.Triplets.{noChannel, writes, holder, prefixesIn, isLossy, sameSteps, three}
-use Rattle.channel_rules.specs.Kept.{noInfo}
+use Rattle.channel_rules.specs.Triplets.{noChannel, noInfo, writes, holder, prefixesIn, isLossy, sameSteps, three}
 
 abbrev pub noSlots : Slots
 noSlots = record { r = None; g = None; b = None }

@@ -10,6 +10,7 @@ use Rattle.std.specs.shelf.Lists.{joined}
 use Rattle.std.specs.declared.option.Option.{Option}
 use Rattle.std.specs.declared.option.Option.the-variants.{Some, None}
 use Rattle.channel_rules.specs.declared.records.ChannelDescription.{ChannelDescription}
+use Rattle.channel_rules.specs.declared.records.ChannelInfo.{ChannelInfo}
 use Rattle.channel_rules.specs.declared.records.Rule.{Rule}
 use Rattle.channel_rules.specs.declared.records.Triplet.{Triplet}
 use Rattle.channel_rules.specs.declared.records.CompressorScheme.{CompressorScheme}
@@ -25,6 +26,12 @@ noRule = record { suffix = record { start = 0; len = 0 }; scheme = Unknown; «sa
 
 abbrev pub noChannel : ChannelDescription
 noChannel = record { name = record { start = 0; len = 0 }; «sample_type» = U32; «x_sampling» = 0; «y_sampling» = 0; «quantize_linearly» = false }
+
+abbrev pub noInfo : ChannelInfo
+noInfo = record { scheme = Unknown; width = 0; height = 0; «sample_type» = U32; «quantize_linearly» = false }
+
+abbrev pub noTriplet : Triplet
+noTriplet = record { r = 0; g = 0; b = 0 }
 
 -- each name, and each suffix, lies in the text
 abbrev pub Named : List ℕ → List ChannelDescription → Type 0

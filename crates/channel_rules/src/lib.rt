@@ -1,16 +1,15 @@
-// Classifies the channels of a chunk into a roll, by their names.
-mod checks;
-mod classify;
+// The rules of a chunk, and what they give: each channel's scheme, and the channels that hold the slots of a prefix.
 mod listing;
 mod matching;
 mod names;
 mod prefix_map;
 mod records;
-mod refusal;
-mod roll;
 mod shown;
 
-pub use classify::classify_channels;
+pub use listing::list_channels;
+pub use listing::list_triplets;
+pub use prefix_map::KnownPrefix;
+pub use prefix_map::Slots;
 pub use records::ChannelDescription;
 pub use records::ChannelInfo;
 pub use records::CompressorScheme;
@@ -19,10 +18,5 @@ pub use records::Part;
 pub use records::Rule;
 pub use records::SampleType;
 pub use records::Triplet;
-pub use refusal::Concerned;
-pub use refusal::ConcernedDisplay;
-pub use refusal::Refusal;
-pub use refusal::RefusalDisplay;
-pub use roll::Roll;
 pub use shown::CompressorSchemeDisplay;
 pub use shown::SampleTypeDisplay;

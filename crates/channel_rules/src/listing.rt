@@ -25,7 +25,7 @@ fn side_of(chunk_side: usize, step: usize) -> usize
 }
 
 // Takes in all channels: lists what is kept of each, and their prefixes.
-pub(crate) fn list_channels(
+pub fn list_channels(
     infos: &mut Vec<ChannelInfo>,
     known: &mut Vec<KnownPrefix>,
     text: &[u8],
@@ -111,7 +111,7 @@ fn triplet_in(
 }
 
 // Lists the triplets that form, in the order of the known prefixes.
-pub(crate) fn list_triplets(
+pub fn list_triplets(
     out: &mut Vec<Triplet>,
     channels: &[ChannelDescription],
     infos: &[ChannelInfo],

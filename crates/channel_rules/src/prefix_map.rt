@@ -13,17 +13,17 @@ use crate::records::CompressorScheme;
 use crate::records::Rule;
 
 #[derive(Clone, Copy)]
-pub(crate) struct Slots {
-    pub(crate) r: Option<usize>,
-    pub(crate) g: Option<usize>,
-    pub(crate) b: Option<usize>,
+pub struct Slots {
+    pub r: Option<usize>,
+    pub g: Option<usize>,
+    pub b: Option<usize>,
 }
 
 // A prefix, by the first channel that has it.
 #[derive(Clone, Copy)]
-pub(crate) struct KnownPrefix {
-    pub(crate) first: usize,
-    pub(crate) slots: Slots,
+pub struct KnownPrefix {
+    pub first: usize,
+    pub slots: Slots,
 }
 
 const NO_SLOTS: Slots = Slots {

@@ -1,12 +1,12 @@
 // What is answered for a plate, in the words of an `.expected` file.
 use channel_rules::CompressorSchemeDisplay;
-use channel_rules::Concerned;
-use channel_rules::ConcernedDisplay;
-use channel_rules::Refusal;
-use channel_rules::Roll;
-use channel_rules::classify_channels;
 use plate_file::Malformed;
 use plate_file::parse_plate;
+use roll::Concerned;
+use roll::ConcernedDisplay;
+use roll::Refusal;
+use roll::Roll;
+use roll::classify_channels;
 use std::alloc::AllocError;
 use std::alloc::Global;
 

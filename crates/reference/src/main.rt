@@ -3,8 +3,8 @@ mod answer;
 
 use answer::Answer;
 use answer::answer_of;
-use channel_rules::Roll;
 use plate_file::MalformedDisplay;
+use roll::Roll;
 use std::env;
 use std::error::AnyError;
 use std::fs;

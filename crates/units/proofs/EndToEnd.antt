@@ -8,7 +8,8 @@ use Rattle.std.proofs.shelf.Lists.{getD-take, length-take-le, take-take}
 use Rattle.std.proofs.shelf.Sums.{sumBy-more, sumBy-take-le}
 use Rattle.std.specs.shelf.Lists.{sumBy}
 use Rattle.channel_rules.specs.declared.records.ChannelInfo.{ChannelInfo}
-use Rattle.channel_rules.specs.Kept.{noInfo, Sides}
+use Rattle.channel_rules.specs.Triplets.{noInfo}
+use Rattle.roll.specs.Kept.{Sides}
 use Rattle.units.specs.Units.{planeArea, planeStart, totalSamples}
 
 -- the channels before one, of a list that is lent

@@ -11,8 +11,8 @@ use Rattle.channel_rules.specs.declared.records.Triplet.{Triplet}
 use Rattle.units.specs.declared.unit.Unit.{Unit}
 use Rattle.units.specs.declared.unit.UnitChannels.{UnitChannels}
 use Rattle.units.specs.declared.unit.UnitChannels.the-variants.{Triplet as OfTriplet, Lone}
-use Rattle.channel_rules.specs.Refusals.{noTriplet}
-use Rattle.channel_rules.specs.Kept.{noInfo}
+use Rattle.channel_rules.specs.Triplets.{noTriplet}
+use Rattle.channel_rules.specs.Triplets.{noInfo}
 use Rattle.units.specs.Units.{lonesIn, unitsIn, noUnit, leading, UnitAt}
 
 module _ (es : List ChannelInfo) (ts : List Triplet) where

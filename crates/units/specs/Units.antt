@@ -16,7 +16,7 @@ use Rattle.units.specs.declared.unit.UnitChannels.{UnitChannels}
 use Rattle.units.specs.declared.unit.UnitChannels.the-variants.{Triplet as OfTriplet, Lone}
 use Rattle.channel_rules.specs.Picks.{some}
 use Rattle.channel_rules.specs.Triplets.{isLossy}
-use Rattle.channel_rules.specs.Kept.{noInfo}
+use Rattle.channel_rules.specs.Triplets.{noInfo}
 
 -- one of the triplet's slots holds the channel
 abbrev pub holds : ℕ → Triplet → Bool

@@ -4,15 +4,15 @@ ghost use Prim.Native.Nat.{_≤_, _<_};
 ghost use lib.ListN.{length, getD};
 ghost use Rattle.std.specs.Options.{Cases};
 ghost use Rattle.std.specs.Of.Vec.{vec-items};
-ghost use Rattle.channel_rules.specs.Kept.{noInfo};
+ghost use Rattle.channel_rules.specs.Triplets.{noInfo};
 ghost use Rattle.channel_rules.specs.Picks.{some};
 ghost use Rattle.units.specs.Units.{holds, isLone, lonesIn, unitsIn, UnitAt};
 use crate::planes::is_lossy;
 use crate::unit::Unit;
 use crate::unit::UnitChannels;
 use channel_rules::ChannelInfo;
-use channel_rules::Roll;
 use channel_rules::Triplet;
+use roll::Roll;
 
 fn is_member(triplet: &Triplet, channel: usize) -> bool
     ensures { λ r. ⌜ r ≡ holds channel (now (triplet .entry)) ⌝ }

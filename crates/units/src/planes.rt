@@ -3,12 +3,12 @@ ghost use mathlib.Core.Path.{_≡_};
 ghost use Prim.Native.Nat.{_≤_};
 ghost use lib.ListN.{length};
 ghost use Rattle.std.specs.Of.Vec.{vec-items};
-ghost use Rattle.channel_rules.specs.Kept.{Sides};
+ghost use Rattle.roll.specs.Kept.{Sides};
 ghost use Rattle.channel_rules.specs.Triplets.{isLossy};
 ghost use Rattle.units.specs.Units.{planeArea, PlaneAt, totalSamples};
 use channel_rules::ChannelInfo;
 use channel_rules::CompressorScheme;
-use channel_rules::Roll;
+use roll::Roll;
 
 pub(crate) fn is_lossy(info: &ChannelInfo) -> bool
     ensures { λ r. ⌜ r ≡ isLossy (now (info .entry) .scheme) ⌝ }

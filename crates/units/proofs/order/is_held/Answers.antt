@@ -1,7 +1,7 @@
 use mathlib.Core.Path.{_≡_, sym, _∙_}
 use native.Mathlib.Omega.{arith}
 use Rattle.std.proofs.shelf.Lists.{take-all}
-use Rattle.channel_rules.specs.Refusals.{noTriplet}
+use Rattle.channel_rules.specs.Triplets.{noTriplet}
 use Rattle.units.specs.Units.{holds}
 use Rattle.channel_rules.proofs.Picks.{some-more, some-at}
 use Rattle.units.proofs.order.is_held.Needs as need

@@ -10,7 +10,7 @@ use Rattle.std.specs.declared.option.Option.the-variants.{Some, None}
 use Rattle.channel_rules.specs.declared.records.ChannelInfo.{ChannelInfo}
 use Rattle.channel_rules.specs.declared.records.Triplet.{Triplet}
 use Rattle.units.specs.declared.unit.UnitChannels.the-variants.{Triplet as OfTriplet, Lone}
-use Rattle.channel_rules.specs.Refusals.{noTriplet}
+use Rattle.channel_rules.specs.Triplets.{noTriplet}
 use Rattle.units.specs.Units.{lonesIn, unitsIn, UnitAt}
 use Rattle.units.proofs.Ordered.{count, triplet-at, lone-at, placed}
 use Rattle.units.proofs.order.unit_at.Needs as need

@@ -3,7 +3,7 @@ use mathlib.Core.List.{List}
 use Prim.Native.Nat.{_≤_}
 use lib.ListN.{getD}
 use Rattle.channel_rules.specs.declared.records.ChannelInfo.{ChannelInfo}
-use Rattle.channel_rules.specs.Kept.{noInfo}
+use Rattle.channel_rules.specs.Triplets.{noInfo}
 use Rattle.units.proofs.order.unit_of.Needs as need
 
 pub ghost-result : need.ghost-result

@@ -7,7 +7,8 @@ use Rattle.std.specs.Of.Vec.{vec-items}
 use Rattle.std.proofs.shelf.Lists.{length-take-le}
 use Rattle.channel_rules.specs.declared.records.ChannelInfo.{ChannelInfo}
 use Rattle.channel_rules.specs.Triplets.{isLossy}
-use Rattle.channel_rules.specs.Kept.{noInfo, Sides}
+use Rattle.channel_rules.specs.Triplets.{noInfo}
+use Rattle.roll.specs.Kept.{Sides}
 use Rattle.units.specs.Units.{planeArea, planeStart, totalSamples}
 use Rattle.units.proofs.EndToEnd.{front, sides-take, within-total, before-later}
 use Rattle.units.proofs.planes.plane_start.Needs as need

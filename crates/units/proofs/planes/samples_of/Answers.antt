@@ -3,7 +3,7 @@ use Prim.Native.Nat.{_+_}
 use native.Mathlib.Omega.{arith}
 use Rattle.std.proofs.shelf.Lists.{take-all}
 use Rattle.std.proofs.shelf.Sums.{sumBy-more}
-use Rattle.channel_rules.specs.Kept.{noInfo}
+use Rattle.channel_rules.specs.Triplets.{noInfo}
 use Rattle.units.specs.Units.{planeArea}
 use Rattle.units.proofs.planes.samples_of.Needs as need
 
