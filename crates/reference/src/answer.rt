@@ -13,7 +13,26 @@ use std::alloc::Global;
 #[derive(Drop)]
 pub enum Answer {
     Malformed(Malformed),
-    Classified(Lines),
+    Classified(Lines, Streams),
+}
+
+// A number for each stream that tells its words and their order.
+#[derive(Clone, Copy)]
+pub struct Streams {
+    pub dc: u32,
+    pub ac: u32,
+}
+
+// Each word, one more than it is so that zeros count, times its place from 1, all added up.
+fn weight(words: &[u16]) -> u32 {
+    let mut sum = 0u32;
+    let mut place = 1u32;
+    for word in words {
+        let more = u32::from(*word).wrapping_add(1).wrapping_mul(place);
+        sum = sum.wrapping_add(more);
+        place = place.wrapping_add(1);
+    }
+    sum
 }
 
 // The first lines of an `.expected` file; those of a refusal are all of it.
@@ -46,7 +65,9 @@ pub fn answer_of(heap: Global, roll: &mut Roll, bytes: &[u8]) -> Result<Answer, 
         Ok(()) => roll_lines(heap, roll)?,
         Err(refusal) => refusal_line(heap, &refusal)?,
     };
-    Ok(Answer::Classified(lines))
+    let dc = weight(plate.dc.as_slice());
+    let ac = weight(plate.ac.as_slice());
+    Ok(Answer::Classified(lines, Streams { dc, ac }))
 }
 
 fn roll_lines(heap: Global, roll: &Roll) -> Result<Lines, AllocError> {

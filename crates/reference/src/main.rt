@@ -9,7 +9,7 @@ use std::env;
 use std::error::AnyError;
 use std::fs;
 
-// A plate without an `.expected` file beside it is a malformed one: what is said of it is printed.
+// The two numbers tell the words of the streams. A plate without an `.expected` file beside it is a malformed one: what is said of it is printed.
 fn print_plate(rt: &LibcRuntime, roll: &mut Roll, name: &str) -> Result<bool, AnyError> {
     let heap = rt.alloc();
     let bytes = fs::read(rt, format!(heap, "{name}.plate")?)?;
@@ -18,11 +18,13 @@ fn print_plate(rt: &LibcRuntime, roll: &mut Roll, name: &str) -> Result<bool, An
             println!(rt, "{name} malformed {fault}")?;
             Ok(true)
         }
-        Answer::Classified(answer) => {
+        Answer::Classified(answer, streams) => {
             let expected = fs::read(rt, format!(heap, "{name}.expected")?)?;
             let equal = answer.is_in(expected.as_slice());
             let word = if equal { "equal" } else { "differs" };
-            println!(rt, "{name} {word}")?;
+            let dc = streams.dc;
+            let ac = streams.ac;
+            println!(rt, "{name} {word} dc {dc} ac {ac}")?;
             Ok(equal)
         }
     }
