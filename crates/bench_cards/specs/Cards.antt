@@ -34,12 +34,15 @@ rules = rule 2 0 ∷ rule 1 1 ∷ rule 0 2 ∷ []
 abbrev pub equalSteps : List ChannelDescription
 equalSteps = channel 0 1 ∷ channel 1 1 ∷ channel 2 1 ∷ []
 
+-- the same names with x steps 0, 1, 1
 abbrev pub unequalSteps : List ChannelDescription
 unequalSteps = channel 0 0 ∷ channel 1 1 ∷ channel 2 1 ∷ []
 
+-- a chunk of 9 by 3 pixels
 abbrev pub chunk : IntegerBounds
 chunk = record { left = pos 0; top = pos 0; width = 9; height = 3 }
 
+-- the cards
 pub record Cards : Type 0 where
   -- channels B, G, R form the triplet [2, 1, 0]
   pub forms : tripletsIn text equalSteps rules ≡ record { r = 2; g = 1; b = 0 } ∷ []

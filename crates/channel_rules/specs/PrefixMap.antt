@@ -19,9 +19,11 @@ use Rattle.channel_rules.specs.declared.prefix_map.KnownPrefix.{KnownPrefix}
 use Rattle.channel_rules.specs.Names.{prefixIn}
 use Rattle.channel_rules.specs.Triplets.{noChannel, noInfo, writes, holder, prefixesIn, isLossy, sameSteps, three}
 
+-- slots that nothing holds
 abbrev pub noSlots : Slots
 noSlots = record { r = None; g = None; b = None }
 
+-- a record of zeros, for a place that is past the end
 abbrev pub noKnown : KnownPrefix
 noKnown = record { first = 0; slots = noSlots }
 

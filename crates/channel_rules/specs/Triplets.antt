@@ -20,26 +20,31 @@ use Rattle.channel_rules.specs.Names.{Inside, prefixIn}
 use Rattle.channel_rules.specs.Rules.{isFor}
 use Rattle.channel_rules.specs.Picks.{some, lastPlace, distinct}
 
--- records of zeros, for a place that is past the end
+-- a rule of zeros, for a place that is past the end
 abbrev pub noRule : Rule
 noRule = record { suffix = record { start = 0; len = 0 }; scheme = Unknown; «sample_type» = U32; «csc_index» = None; «case_insensitive» = false }
 
+-- the same of a channel
 abbrev pub noChannel : ChannelDescription
 noChannel = record { name = record { start = 0; len = 0 }; «sample_type» = U32; «x_sampling» = 0; «y_sampling» = 0; «quantize_linearly» = false }
 
+-- of what is kept of a channel
 abbrev pub noInfo : ChannelInfo
 noInfo = record { scheme = Unknown; width = 0; height = 0; «sample_type» = U32; «quantize_linearly» = false }
 
+-- of a triplet
 abbrev pub noTriplet : Triplet
 noTriplet = record { r = 0; g = 0; b = 0 }
 
--- each name, and each suffix, lies in the text
+-- each name lies in the text
 abbrev pub Named : List ℕ → List ChannelDescription → Type 0
 Named text channels = (i : ℕ) → i < length channels → Inside text (getD channels i noChannel .name)
 
+-- each suffix lies in the text
 abbrev pub Suffixed : List ℕ → List Rule → Type 0
 Suffixed text rules = (j : ℕ) → j < length rules → Inside text (getD rules j noRule .suffix)
 
+-- the scheme of the rule at a place; Unknown where there is none
 abbrev pub schemeAt : List Rule → Option ℕ → CompressorScheme
 schemeAt rules None = Unknown
 schemeAt rules (Some j) = getD rules j noRule .scheme
@@ -48,11 +53,13 @@ schemeAt rules (Some j) = getD rules j noRule .scheme
 abbrev pub schemeIn : List ℕ → List Rule → ChannelDescription → CompressorScheme
 schemeIn text rules c = schemeAt rules (lastPlace (isFor text c) rules)
 
+-- whether the scheme is the lossy one
 abbrev pub isLossy : CompressorScheme → Bool
 isLossy Unknown = false
 isLossy LossyDct = true
 isLossy Rle = false
 
+-- whether a rule's slot is this one
 abbrev pub isSlot : ℕ → Option ℕ → Bool
 isSlot slot None = false
 isSlot slot (Some own) = eqb own slot
@@ -69,6 +76,7 @@ filledBy text rules prefix slot c = sameBytes (prefixIn text c) prefix && writes
 abbrev pub holder : List ℕ → List ChannelDescription → List Rule → List ℕ → ℕ → Option ℕ
 holder text channels rules prefix slot = lastPlace (filledBy text rules prefix slot) channels
 
+-- whether the channel at a place is lossy
 abbrev pub lossyAt : List ℕ → List ChannelDescription → List Rule → ℕ → Bool
 lossyAt text channels rules i = isLossy (schemeIn text rules (getD channels i noChannel))
 
@@ -83,6 +91,7 @@ goTogether text channels rules i j k =
     && sameSteps (getD channels i noChannel) (getD channels j noChannel)
     && sameSteps (getD channels i noChannel) (getD channels k noChannel)
 
+-- a triplet of three holders, where all are there and pass the test
 abbrev pub three : (ℕ → ℕ → ℕ → Bool) → Option ℕ → Option ℕ → Option ℕ → Option Triplet
 three test None second third = None
 three test (Some i) None third = None

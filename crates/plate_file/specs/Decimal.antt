@@ -30,9 +30,11 @@ Reads worth most bs (Err OutOfRange) = Numeral bs × (most < value bs)
 abbrev pub Unsigned : List ℕ → Result ℕ NumberFault → Type 0
 Unsigned bs r = Reads (λ n. n) (2 ^ 64 - 1) bs r
 
+-- 32 bits, without a minus sign
 abbrev pub Positive : List ℕ → Result ℤ NumberFault → Type 0
 Positive bs r = Reads pos (2 ^ 31 - 1) bs r
 
+-- 32 bits, what follows a minus sign
 abbrev pub Negative : List ℕ → Result ℤ NumberFault → Type 0
 Negative bs r = Reads (λ n. negℤ (pos n)) (2 ^ 31) bs r
 

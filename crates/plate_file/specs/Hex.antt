@@ -13,6 +13,7 @@ use Rattle.std.specs.declared.option.Option.the-variants.{Some, None}
 abbrev pub hexDigit : ℕ → Option ℕ
 hexDigit byte = cond (leb 48 byte && leb byte 57) (Some (byte - 48)) (cond (leb 97 byte && leb byte 102) (Some (byte - 87)) None)
 
+-- one value in front of others, where both are there
 abbrev pub before : Option ℕ → Option (List ℕ) → Option (List ℕ)
 before None ds = None
 before (Some d) None = None
@@ -27,5 +28,6 @@ hexDigits (b ∷ bs) = before (hexDigit b) (hexDigits bs)
 abbrev pub hexPair : List ℕ → Option ℕ
 hexPair bs = cond (eqb (length bs) 2) (mapped (number 16) (hexDigits bs)) None
 
+-- a word: four digits
 abbrev pub hexWord : List ℕ → Option ℕ
 hexWord bs = cond (eqb (length bs) 4) (mapped (number 16) (hexDigits bs)) None

@@ -12,10 +12,11 @@ use Rattle.plate_file.specs.Hex.{hexPair}
 abbrev pub isPlain : ℕ → Bool
 isPlain byte = leb 32 byte && leb byte 126 && not (eqb byte 34) && not (eqb byte 92)
 
--- the byte that `\xHH` writes, where that stands first
+-- `\x` stands first, with two bytes behind it
 abbrev pub isEscape : List ℕ → Bool
 isEscape bs = leb 4 (length bs) && eqb (getD bs 0 0) 92 && eqb (getD bs 1 0) 120
 
+-- the byte that an escape at the front writes
 abbrev pub escapeIn : List ℕ → Option ℕ
 escapeIn bs = cond (isEscape bs) (hexPair (getD bs 2 0 ∷ getD bs 3 0 ∷ [])) None
 

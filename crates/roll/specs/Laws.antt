@@ -39,6 +39,7 @@ pub record FirstAppearances (names ps : List (List ℕ)) : Type 0 where
   pub only : (k : ℕ) → k < length ps → (i : ℕ) × (i < length names) × (getD names i [] ≡ getD ps k [])
   pub ordered : (j k : ℕ) → j < k → k < length ps → Before names (getD ps j []) (getD ps k [])
 
+-- the laws
 pub record Laws : Type 0 where
   -- a name's prefix and suffix split it at its last dot
   pub splits : (name : List ℕ) → Splits name (cut name)

@@ -34,6 +34,7 @@ lonesIn es ts = kept-by (isLone es ts) (counting 0 (length es))
 abbrev pub unitsIn : List ChannelInfo → List Triplet → List UnitChannels
 unitsIn es ts = map OfTriplet ts ++ map Lone (lonesIn es ts)
 
+-- for a place that is past the end
 abbrev pub noUnit : UnitChannels
 noUnit = Lone 0
 
