@@ -1,4 +1,6 @@
 // Cards from the bench, proved.
+#![tactic(auto)]
+
 ghost use Rattle.std.specs.Prelude.{◌≡◌};
 ghost use Rattle.bench_cards.specs.Cards.{Cards};
 

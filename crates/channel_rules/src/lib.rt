@@ -1,4 +1,6 @@
 // The rules of a chunk, and what they give: each channel's scheme, and the channels that hold the slots of a prefix.
+#![tactic(auto)]
+
 mod listing;
 mod matching;
 mod names;

@@ -1,4 +1,6 @@
 // Reads plate files: the text form of a chunk's description and of its two streams.
+#![tactic(auto)]
+
 mod draft;
 mod header;
 mod hex;

@@ -1,4 +1,6 @@
 // The bench's program over plate files.
+#![tactic(auto)]
+
 mod roll_command;
 
 use anyhow::anyhow;

@@ -1,4 +1,6 @@
 // Holds the roll or the refusal of each plate of the reference collection against its `.expected` file.
+#![tactic(auto)]
+
 mod answer;
 
 use answer::{Answer, answer_of};

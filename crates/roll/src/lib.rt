@@ -1,4 +1,6 @@
 // The roll of a chunk: its channels classified, and its colour triplets.
+#![tactic(auto)]
+
 mod checks;
 mod classify;
 mod refusal;

@@ -1,4 +1,6 @@
 // What is asked of a roll: its units in order, and where its planes lie.
+#![tactic(auto)]
+
 mod blocks;
 mod order;
 mod planes;

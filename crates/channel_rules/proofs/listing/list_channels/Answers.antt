@@ -11,13 +11,13 @@ pub loop-index-preserved : goal.loop-index-preserved
 loop-index-preserved c =
     let f = info_in c.args.text.now c.args.rules.now c.args.rectangle.now in
     let own : ChannelDescription = get_or c.args.channels.now c.loop-index.index no_channel in
-    let new : ChannelInfo = record { scheme = c.meet-scheme.result; width = c.side-of-width.result; height = c.side-of-height.result; sample_type = own.sample_type; quantize_linearly = own.quantize_linearly } in
-    let e : new ≡ f own = cc (c.meet-scheme.ensures.scheme, c.side-of-width.ensures.value, c.side-of-height.ensures.value) in (
-      c.push-reserved.ensures.items ∙ ap (λ l. l ++ new ∷ []) c.loop-index.invariant.0
+    let new : ChannelInfo = record { scheme = c.meet-scheme.result; width = c.side_of-width.result; height = c.side_of-height.result; sample_type = own.sample_type; quantize_linearly = own.quantize_linearly } in
+    let e : new ≡ f own = cc (c.meet-scheme.ensures.scheme, c.side_of-width.ensures.value, c.side_of-height.ensures.value) in (
+      c.push_reserved.ensures.items ∙ ap (λ l. l ++ new ∷ []) c.loop-index.invariant.0
           ∙ ap (λ i. map f (take c.loop-index.index c.args.channels.now) ++ i ∷ []) e
           ∙ sym (map_more f c.args.channels.now c.loop-index.index no_channel c.loop-index-test.true),
-      omega (arith, c.push-reserved.ensures.len, c.loop-index.invariant.1),
-      c.push-reserved.ensures.capacity ∙ c.loop-index.invariant.2,
+      omega (arith, c.push_reserved.ensures.len, c.loop-index.invariant.1),
+      c.push_reserved.ensures.capacity ∙ c.loop-index.invariant.2,
       c.meet-scheme.ensures.met,
       c.meet-scheme.ensures.short,
       c.meet-scheme.ensures.capacity ∙ c.loop-index.invariant.5,

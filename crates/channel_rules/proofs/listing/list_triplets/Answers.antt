@@ -6,7 +6,7 @@ use Rattle.channel_rules.specs.declared.prefix_map.KnownPrefix.{KnownPrefix}
 use Rattle.channel_rules.specs.PrefixMap.{no_known, formed_by}
 use Rattle.channel_rules.proofs.Forming.{joined_step}
 use Rattle.channel_rules.proofs.listing.list_triplets.Goals as goal
-use Rattle.channel_rules.proofs.listing.list_triplets.Goals.{in-Some, in-default}
+use Rattle.channel_rules.proofs.listing.list_triplets.Goals.{in-Some, in_default}
 
 pub loop-met-preserved : goal.loop-met-preserved
 loop-met-preserved c =
@@ -14,22 +14,22 @@ loop-met-preserved c =
     let ks = c.args.known.now in
     let i = c.loop-met.met-index in
     let old = c.loop-met.out in
-    let q : vec_items c.match-triplet-in.out ≡ vec_items old ++ option_to_list c.triplet-in.result =
-    elim c.match-triplet-in.branch [
-      | in-Some w ↦ ap vec_items w.out-is ∙ w.push-reserved.ensures.items ∙ ap (λ o. vec_items old ++ option_to_list o) (sym w.in-Some.is)
-      | in-default w ↦ ap vec_items w.out-is ∙ sym (append-nil (vec_items old)) ∙ ap (λ o. vec_items old ++ option_to_list o) (sym w.in-default.is)
+    let q : vec_items c.match-triplet_in.out ≡ vec_items old ++ option_to_list c.triplet_in.result =
+    elim c.match-triplet_in.branch [
+      | in-Some w ↦ ap vec_items w.out-is ∙ w.push_reserved.ensures.items ∙ ap (λ o. vec_items old ++ option_to_list o) (sym w.in-Some.is)
+      | in_default w ↦ ap vec_items w.out-is ∙ sym (append-nil (vec_items old)) ∙ ap (λ o. vec_items old ++ option_to_list o) (sym w.in_default.is)
     ] in
-    let n : vec_len c.match-triplet-in.out ≤ i + 1 =
-    elim c.match-triplet-in.branch [
-      | in-Some w ↦ omega (arith, ap vec_len w.out-is, w.push-reserved.ensures.len, c.loop-met.invariant.1)
-      | in-default w ↦ omega (arith, ap vec_len w.out-is, c.loop-met.invariant.1)
+    let n : vec_len c.match-triplet_in.out ≤ i + 1 =
+    elim c.match-triplet_in.branch [
+      | in-Some w ↦ omega (arith, ap vec_len w.out-is, w.push_reserved.ensures.len, c.loop-met.invariant.1)
+      | in_default w ↦ omega (arith, ap vec_len w.out-is, c.loop-met.invariant.1)
     ] in
-    let k : vec_capacity c.match-triplet-in.out ≡ vec_capacity c.args.out.now =
-    elim c.match-triplet-in.branch [
-      | in-Some w ↦ ap vec_capacity w.out-is ∙ w.push-reserved.ensures.capacity ∙ c.loop-met.invariant.2
-      | in-default w ↦ ap vec_capacity w.out-is ∙ c.loop-met.invariant.2
+    let k : vec_capacity c.match-triplet_in.out ≡ vec_capacity c.args.out.now =
+    elim c.match-triplet_in.branch [
+      | in-Some w ↦ ap vec_capacity w.out-is ∙ w.push_reserved.ensures.capacity ∙ c.loop-met.invariant.2
+      | in_default w ↦ ap vec_capacity w.out-is ∙ c.loop-met.invariant.2
     ] in (
-      q ∙ ap (λ o. vec_items old ++ option_to_list o) c.triplet-in.ensures
+      q ∙ ap (λ o. vec_items old ++ option_to_list o) c.triplet_in.ensures
           ∙ ap (λ l. l ++ f (get_or ks i no_known)) c.loop-met.invariant.0 ∙ sym (joined_step f ks i no_known c.loop-met-test.true),
       n,
       k,

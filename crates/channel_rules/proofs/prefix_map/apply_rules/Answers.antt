@@ -17,9 +17,9 @@ loop-rule-preserved c =
     let r : Rule = get_or rules i no_rule in
     let m : c.matches-matches.result ≡ is_for text own r =
     c.matches-matches.ensures ∙ ap (λ s. matched text s own.sample_type r) c.suffix-suffix.ensures.value in (
-      c.apply-rule.ensures.scheme ∙ ap (λ b. cond b r.scheme c.loop-rule.scheme) m
+      c.apply_rule.ensures.scheme ∙ ap (λ b. cond b r.scheme c.loop-rule.scheme) m
           ∙ ap (cond (is_for text own r) r.scheme) c.loop-rule.invariant.0 ∙ sym (scheme-more text rules own i c.loop-rule-test.true),
-      c.apply-rule.ensures.slots ∙ ap (λ b. ruled b r.csc_index n c.loop-rule.slots) m
+      c.apply_rule.ensures.slots ∙ ap (λ b. ruled b r.csc_index n c.loop-rule.slots) m
           ∙ ap (ruled (is_for text own r) r.csc_index n) c.loop-rule.invariant.1
           ∙ sym (stamped-more text rules own i c.loop-rule-test.true n c.args.slots.now),
     )

@@ -25,20 +25,20 @@ returns-in-Some c =
     let ks = vec_items c.args.known.now in
     let at = c.in-Some.place in
     let own = get_or chs c.args.index no_channel in
-    let here = said text chs (Some at) c.as-slice.ensures.value c.prefix.ensures.value c.in-Some.ensures in
+    let here = said text chs (Some at) c.as_slice.ensures.value c.prefix.ensures.value c.in-Some.ensures in
     let first : c.index.result.now ≡ get_or ks at no_known = get_or_read ks at c.index.result.now here.0 c.index.ensures no_known in
     let slots : c.index-in-Some.result.now ≡ get_or ks at no_known = get_or_read ks at c.index-in-Some.result.now here.0 c.index-in-Some.ensures no_known in
     let new : KnownPrefix = record { first = (get_or ks at no_known).first; slots = stamped text rules own c.args.index (get_or ks at no_known).slots } in
-    let s : c.apply-rules-scheme.new.slots ≡ new.slots =
-    c.apply-rules-scheme.ensures.slots ∙ ap (λ k. stamped text rules own c.args.index k.slots) slots in
-    let n : record { first = c.index.result.now.first; slots = c.apply-rules-scheme.new.slots } ≡ new =
-    ap (λ (k : KnownPrefix). record { first = k.first; slots = c.apply-rules-scheme.new.slots }) first ∙ ap (λ (x : Slots). record { first = (get_or ks at no_known).first; slots = x }) s in
+    let s : c.apply_rules-scheme.new.slots ≡ new.slots =
+    c.apply_rules-scheme.ensures.slots ∙ ap (λ k. stamped text rules own c.args.index k.slots) slots in
+    let n : record { first = c.index.result.now.first; slots = c.apply_rules-scheme.new.slots } ≡ new =
+    ap (λ (k : KnownPrefix). record { first = k.first; slots = c.apply_rules-scheme.new.slots }) first ∙ ap (λ (x : Slots). record { first = (get_or ks at no_known).first; slots = x }) s in
     let done : Met text chs rules (c.args.index + 1) (set ks at new) = record {
       firsts = firsts-set (length chs) ks at new c.requires.met.firsts (c.requires.met.firsts at here.0);
       views = met_old text chs rules c.args.index c.requires.within ks c.requires.met.views at here.0 here.1;
     } in
     record {
-      scheme = c.apply-rules-scheme.ensures.scheme;
+      scheme = c.apply_rules-scheme.ensures.scheme;
       met = subst (λ k. Met text chs rules (c.args.index + 1) (set ks at k)) (sym n) done;
       short = omega (arith, c.requires.short);
       capacity = refl;
@@ -51,17 +51,17 @@ returns-in-None c =
     let rules = c.args.rules.now in
     let ks = vec_items c.args.known.now in
     let own = get_or chs c.args.index no_channel in
-    let nowhere = said text chs None c.as-slice.ensures.value c.prefix.ensures.value c.in-None.ensures in
+    let nowhere = said text chs None c.as_slice.ensures.value c.prefix.ensures.value c.in-None.ensures in
     let new : KnownPrefix = record { first = c.args.index; slots = stamped text rules own c.args.index no_slots } in
-    let n : record { first = c.args.index; slots = c.apply-rules-scheme-in-None.new.slots } ≡ new =
-    ap (λ (x : Slots). record { first = c.args.index; slots = x }) c.apply-rules-scheme-in-None.ensures.slots in
+    let n : record { first = c.args.index; slots = c.apply_rules-scheme-in-None.new.slots } ≡ new =
+    ap (λ (x : Slots). record { first = c.args.index; slots = x }) c.apply_rules-scheme-in-None.ensures.slots in
     let done : Met text chs rules (c.args.index + 1) (ks ++ new ∷ []) = record {
       firsts = firsts-push (length chs) ks new c.requires.met.firsts c.requires.within;
       views = met_new text chs rules c.args.index c.requires.within ks c.requires.met.views nowhere;
     } in
     record {
-      scheme = c.apply-rules-scheme-in-None.ensures.scheme;
-      met = subst (Met text chs rules (c.args.index + 1)) (sym (c.push-reserved.ensures.items ∙ ap (λ k. ks ++ k ∷ []) n)) done;
-      short = omega (arith, c.requires.short, c.push-reserved.ensures.len);
-      capacity = c.push-reserved.ensures.capacity;
+      scheme = c.apply_rules-scheme-in-None.ensures.scheme;
+      met = subst (Met text chs rules (c.args.index + 1)) (sym (c.push_reserved.ensures.items ∙ ap (λ k. ks ++ k ∷ []) n)) done;
+      short = omega (arith, c.requires.short, c.push_reserved.ensures.len);
+      capacity = c.push_reserved.ensures.capacity;
     }
