@@ -14,4 +14,4 @@ returns-in-err-low c =
 pub returns : goal.returns
 returns c =
     (λ i. Some (c.from.ensures i * 256 + c.from-2.ensures i))
-    ∙ both c.args.field.now (omega (arith, ltb-true, ltb-false)) c.in-ok-high.high c.in-ok-low.low c.in-ok-high.ensures c.in-ok-low.ensures
+    ∙ both c.args.field.now (omega (arith, ltb-true, ltb-false)) c.in_ok-high.high c.in_ok-low.low c.in_ok-high.ensures c.in_ok-low.ensures

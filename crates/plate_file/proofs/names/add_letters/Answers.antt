@@ -22,13 +22,13 @@ loop-left-preserved c =
     let bs = c.loop-left.left.now in (
       search rules,
       c.loop-left.invariant.1
-          ∙ grown-more (vec_items c.loop-left.text) bs c.in-Some.rest.now c.in-Some.byte (let some = eqb-false _ 0 (sym c.is-empty.ensures ∙ c.loop-left-test.true) in omega arith) c.in-Some.ensures.value c.in-Some.ensures.after
-          ∙ ap (λ text. grown text c.in-Some.rest.now) (sym c.in-ok-push.ensures.items),
+          ∙ grown-more (vec_items c.loop-left.text) bs c.in-Some.rest.now c.in-Some.byte (let some = eqb-false _ 0 (sym c.is_empty.ensures ∙ c.loop-left-test.true) in omega arith) c.in-Some.ensures.value c.in-Some.ensures.after
+          ∙ ap (λ text. grown text c.in-Some.rest.now) (sym c.in_ok-push.ensures.items),
     )
 
 pub returns : goal.returns
 returns c =
     record {
       kept = c.loop-left.invariant.0;
-      value = c.loop-left.invariant.1 ∙ grown-all _ c.loop-left.left.now (nil_from_length _ (eqb-true _ 0 (sym c.is-empty.ensures ∙ c.loop-left-test.false)));
+      value = c.loop-left.invariant.1 ∙ grown-all _ c.loop-left.left.now (nil_from_length _ (eqb-true _ 0 (sym c.is_empty.ensures ∙ c.loop-left-test.false)));
     }

@@ -8,10 +8,10 @@ overflow-sub-result c = search rules
 pub returns : goal.returns
 returns c =
     record {
-      kept = c.add-letters.ensures.kept;
-      after = c.in-ok-written.ensures.after;
+      kept = c.add_letters.ensures.kept;
+      after = c.in_ok-written.ensures.after;
       value =
-          name-added c.args.reader.now.left.now (vec_items c.args.text.now) (vec_items c.add-letters.new.text) c.in-ok-written.written.now _ _
-          c.in-ok-written.ensures.value c.in-ok-add-letters.ensures.value
-          (omega (arith, c.args.text.now.ok.0)) (omega (arith, c.args.text.now.ok.0, c.add-letters.new.text.ok.0));
+          name-added c.args.reader.now.left.now (vec_items c.args.text.now) (vec_items c.add_letters.new.text) c.in_ok-written.written.now _ _
+          c.in_ok-written.ensures.value c.in_ok-add_letters.ensures.value
+          (omega (arith, c.args.text.now.ok.0)) (omega (arith, c.args.text.now.ok.0, c.add_letters.new.text.ok.0));
     }

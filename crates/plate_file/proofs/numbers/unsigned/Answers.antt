@@ -24,4 +24,4 @@ pub returns : goal.returns
 returns c =
     let bs = c.args.field.now in
     let all : c.loop-byte.value ≡ value bs = c.loop-byte.invariant.0 ∙ ap value (take_all _ _ c.loop-byte-test.false) in
-    ap Ok all ∙ fitting (λ n. n) _ bs (sym c.if-not-is-numeral.ensures) (omega (arith, c.loop-byte.invariant.1))
+    ap Ok all ∙ fitting (λ n. n) _ bs (sym c.if-not-is_numeral.ensures) (omega (arith, c.loop-byte.invariant.1))

@@ -22,12 +22,12 @@ returns-in-Ok-finish c =
 pub returns-in-Err-finish : goal.returns-in-Err-finish
 returns-in-Err-finish c =
     let some = some-line c.args.bytes.now in
-    let none = ap (λ left. length (lines_left left)) c.in-default.is in
+    let none = ap (λ left. length (lines_left left)) c.in_default.is in
     let line = c.loop-left.line in
     let r : Result Plate Malformed = Err (record { line = line; problem = c.in-Err-finish.problem }) in
     let answer : Answered c.args.bytes.now r =
     inr
-    (sym c.loop-left.invariant.0 ∙ ap (λ left. lines_after line (progress c.loop-left.draft) (lines_left left)) c.in-default.is ∙ ap (on_line line) c.in-Err-finish.ensures)
+    (sym c.loop-left.invariant.0 ∙ ap (λ left. lines_after line (progress c.loop-left.draft) (lines_left left)) c.in_default.is ∙ ap (on_line line) c.in-Err-finish.ensures)
     in
     record {
       answer = answer;

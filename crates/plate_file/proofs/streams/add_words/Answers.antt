@@ -21,8 +21,8 @@ pub loop-field-preserved : goal.loop-field-preserved
 loop-field-preserved c =
     let bs = unread c.loop-field.reader in
     c.loop-field.invariant
-    ∙ longer-more _ _ _ _ (first_field bs c.in-Some.ensures.value.1) c.loop-field.left _ (omega arith) (c.in-ok-word-of.ensures ∙ ap word_in c.in-Some.ensures.value.0)
-    ∙ (λ i. longer (sym c.in-ok-push.ensures.items i) (c.loop-field.left - 1) (fields_of (sym c.in-Some.ensures.after i)))
+    ∙ longer-more _ _ _ _ (first_field bs c.in-Some.ensures.value.1) c.loop-field.left _ (omega arith) (c.in_ok-word_of.ensures ∙ ap word_in c.in-Some.ensures.value.0)
+    ∙ (λ i. longer (sym c.in_ok-push.ensures.items i) (c.loop-field.left - 1) (fields_of (sym c.in-Some.ensures.after i)))
 
 pub returns : goal.returns
-returns c = c.loop-field.invariant ∙ longer-none _ c.loop-field.left _ (no_fields (unread c.loop-field.reader) c.in-default.ensures.value)
+returns c = c.loop-field.invariant ∙ longer-none _ c.loop-field.left _ (no_fields (unread c.loop-field.reader) c.in_default.ensures.value)

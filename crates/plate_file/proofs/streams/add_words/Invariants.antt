@@ -6,7 +6,7 @@ use Rattle.plate_file.proofs.streams.add_words.Given as goal
 -- what is left of the line gives the stream that the whole line gives
 abbrev pub invariant-loop-field : goal.invariant-loop-field
 invariant-loop-field l =
-    longer (vec_items l.initial.words) l.to-come (fields_of (unread l.initial.reader)) ≡ longer (vec_items l.words) l.left (fields_of (unread l.reader))
+    longer (vec_items l.initial.words) l.to_come (fields_of (unread l.initial.reader)) ≡ longer (vec_items l.words) l.left (fields_of (unread l.reader))
 
 abbrev pub decreases-loop-field : goal.decreases-loop-field
 decreases-loop-field l = ahead l.reader
