@@ -7,14 +7,14 @@ use Rattle.plate_file.specs.Steps.{found}
 use Rattle.plate_file.proofs.Letters.{grown, grown-more, grown-none, grown-all, no_name}
 use Rattle.plate_file.proofs.names.add_letters.Goals as goal
 
-pub returns-in-default : goal.returns-in-default
-returns-in-default c =
-    let none = grown-none (vec_items c.loop-left.text) c.loop-left.left.now (let some = eqb-false _ 0 (sym c.is-empty.ensures ∙ c.loop-left-test.true) in omega arith) c.in-default.ensures.value in
+pub returns-in_default : goal.returns-in_default
+returns-in_default c =
+    let none = grown-none (vec_items c.loop-left.text) c.loop-left.left.now (let some = eqb-false _ 0 (sym c.is_empty.ensures ∙ c.loop-left-test.true) in omega arith) c.in_default.ensures.value in
     record { kept = c.loop-left.invariant.0; value = inr (ap (found BadName) (no_name _ c.args.written.now (c.loop-left.invariant.1 ∙ none))) }
 
-pub returns-in-err-push : goal.returns-in-err-push
-returns-in-err-push c =
-    let p = err_from_is_err_and c.from-residual.result c.from-residual.ensures.1 in
+pub returns-in_err-push : goal.returns-in_err-push
+returns-in_err-push c =
+    let p = err_from_is_err_and c.from_residual.result c.from_residual.ensures.1 in
     record { kept = search rules; value = rw p.1 (inl p.2) }
 
 pub loop-left-preserved : goal.loop-left-preserved

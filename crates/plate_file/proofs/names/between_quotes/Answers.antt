@@ -3,8 +3,8 @@ use Rattle.std.proofs.lemmas.List.{take_rest}
 use Rattle.plate_file.proofs.Quotes.{to_close, behind-name, never-closed, runs_on, stands}
 use Rattle.plate_file.proofs.names.between_quotes.Goals as goal
 
-pub returns-in-default-left : goal.returns-in-default-left
-returns-in-default-left c =
+pub returns-in_default-left : goal.returns-in_default-left
+returns-in_default-left c =
     let q = c.pass.new.self.left.now in
     let e = c.pass-written.new.self.left.now in
     record {

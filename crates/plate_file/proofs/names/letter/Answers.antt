@@ -7,13 +7,13 @@ none_left : (bs : List ℕ) → length bs ≡ 0 → None ≡ letter_in bs
 none_left [] e = refl
 none_left (b ∷ bs) e = absurd (omega arith)
 
-pub returns-in-default : goal.returns-in-default
-returns-in-default c = record { value = none_left c.args.bytes.now (omega (arith, ltb-true, ltb-false)); after = tt; goes = tt }
+pub returns-in_default : goal.returns-in_default
+returns-in_default c = record { value = none_left c.args.bytes.now (omega (arith, ltb-true, ltb-false)); after = tt; goes = tt }
 
-pub returns-then-is-plain : goal.returns-then-is-plain
-returns-then-is-plain c =
+pub returns-then-is_plain : goal.returns-then-is_plain
+returns-then-is_plain c =
     let bs = c.args.bytes.now in
-    let plain : true ≡ is_plain (get_or bs 0 0) = sym (sym c.is-plain.ensures ∙ c.if-is-plain.true) in
+    let plain : true ≡ is_plain (get_or bs 0 0) = sym (sym c.is_plain.ensures ∙ c.if-is_plain.true) in
     record {
       value = subst (λ b. Some (get_or bs 0 0) ≡ cond b (Some (get_or bs 0 0)) (escape_in bs)) plain refl;
       after = subst (λ b. take (length bs - 1) (drop 1 bs) ≡ drop (cond b 1 4) bs) plain (between_to_end bs 1 (length bs) (omega arith));

@@ -2,8 +2,8 @@ use Rattle.std.proofs.Common.{vec_items, arith, rules}
 use Rattle.plate_file.proofs.Letters.{name-added}
 use Rattle.plate_file.proofs.names.quoted.Goals as goal
 
-pub overflow-sub-result : goal.overflow-sub-result
-overflow-sub-result c = search rules
+pub overflow_sub-result : goal.overflow_sub-result
+overflow_sub-result c = search rules
 
 pub returns : goal.returns
 returns c =

@@ -3,7 +3,7 @@ use Rattle.std.proofs.lemmas.Slice.{between_to_end}
 use Rattle.plate_file.specs.Decimal.{negative_in, positive_in}
 use Rattle.std.proofs.lemmas.List.{get_or_past}
 use Rattle.plate_file.proofs.numbers.signed.Goals as goal
-use Rattle.plate_file.proofs.numbers.signed.Goals.{in-default-via-then-field-lt1, in-default-via-else-field-lt1+in-default·}
+use Rattle.plate_file.proofs.numbers.signed.Goals.{in_default-via-then-field-lt1, in_default-via-else-field-lt1+in_default-1}
 
 pub returns-in-45 : goal.returns-in-45
 returns-in-45 c =
@@ -12,13 +12,13 @@ returns-in-45 c =
     c.negative.ensures ∙ ap negative_in (between_to_end bs 1 (length bs) (omega arith))
     ∙ sym (ap (λ t. cond t (negative_in (drop 1 bs)) (positive_in bs)) (eq-eqb _ 45 minus))
 
-pub returns-in-default : goal.returns-in-default
-returns-in-default c =
+pub returns-in_default : goal.returns-in_default
+returns-in_default c =
     let bs = c.args.field.now in
     let no : get_or bs 0 0 ≡ 45 → ⊥ =
-    λ e. elim c.in-default.branch [
-      | in-default-via-then-field-lt1 w ↦ let none = get_or_past bs 0 0 (omega (arith, ltb-true)) in omega arith
-      | in-default-via-else-field-lt1+in-default· w ↦ omega arith
+    λ e. elim c.in_default.branch [
+      | in_default-via-then-field-lt1 w ↦ let none = get_or_past bs 0 0 (omega (arith, ltb-true)) in omega arith
+      | in_default-via-else-field-lt1+in_default-1 w ↦ omega arith
     ]
     in
     c.positive.ensures ∙ sym (ap (λ t. cond t (negative_in (drop 1 bs)) (positive_in bs)) (ne_eqb _ 45 no))

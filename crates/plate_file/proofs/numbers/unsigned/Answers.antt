@@ -5,14 +5,14 @@ use Rattle.plate_file.specs.Decimal.{is_numeral, value}
 use Rattle.plate_file.proofs.Numerals.{value-more, value-take, digit_at, fitting, too_large}
 use Rattle.plate_file.proofs.numbers.unsigned.Goals as goal
 
-pub overflow-sub-byte : goal.overflow-sub-byte
-overflow-sub-byte c = digit_at c.args.field.now c.loop-byte.byte-index (sym c.if-not-is-numeral.ensures) (omega arith)
+pub overflow_sub-byte : goal.overflow_sub-byte
+overflow_sub-byte c = digit_at c.args.field.now c.loop-byte.byte-index (sym c.if-not-is_numeral.ensures) (omega arith)
 
-pub returns-in-default : goal.returns-in-default
-returns-in-default c =
+pub returns-in_default : goal.returns-in_default
+returns-in_default c =
     let bs = c.args.field.now in
     let i = c.loop-byte.byte-index in
-    too_large (λ n. n) _ bs (sym c.if-not-is-numeral.ensures) (omega (arith, c.loop-byte.invariant.0, c.in-default.ensures, value-more bs i (omega arith), value-take bs (i + 1)))
+    too_large (λ n. n) _ bs (sym c.if-not-is_numeral.ensures) (omega (arith, c.loop-byte.invariant.0, c.in_default.ensures, value-more bs i (omega arith), value-take bs (i + 1)))
 
 pub loop-byte-preserved : goal.loop-byte-preserved
 loop-byte-preserved c =

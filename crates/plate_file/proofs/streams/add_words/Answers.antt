@@ -10,12 +10,12 @@ pub returns-then-left-eq0 : goal.returns-then-left-eq0
 returns-then-left-eq0 c =
     inr (c.loop-field.invariant ∙ longer-full _ c.loop-field.left _ _ _ (first_field (unread c.loop-field.reader) c.in-Some.ensures.value.1) c.if-left-eq0.true)
 
-pub returns-in-err-word-of : goal.returns-in-err-word-of
-returns-in-err-word-of c =
+pub returns-in_err-word_of : goal.returns-in_err-word_of
+returns-in_err-word_of c =
     let bs = unread c.loop-field.reader in
-    let p = err_from_is_err_and c.from-residual.result c.from-residual.ensures.1 in
+    let p = err_from_is_err_and c.from_residual.result c.from_residual.ensures.1 in
     rw (p.1, p.2)
-    (inr (c.loop-field.invariant ∙ longer-bad _ _ _ _ (first_field bs c.in-Some.ensures.value.1) c.loop-field.left _ (omega arith) (c.in-err-word-of.ensures ∙ ap word_in c.in-Some.ensures.value.0)))
+    (inr (c.loop-field.invariant ∙ longer-bad _ _ _ _ (first_field bs c.in-Some.ensures.value.1) c.loop-field.left _ (omega arith) (c.in_err-word_of.ensures ∙ ap word_in c.in-Some.ensures.value.0)))
 
 pub loop-field-preserved : goal.loop-field-preserved
 loop-field-preserved c =

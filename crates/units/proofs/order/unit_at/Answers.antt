@@ -11,9 +11,9 @@ use Rattle.units.proofs.order.unit_at.Goals.{Then-index-triplets}
 inside : (c : Then-index-triplets) → c.args.index < length (vec_items c.args.roll.now.triplets)
 inside c = subst (λ (l : List Triplet). c.args.index < length l) c.triplets-triplets.ensures c.if-index-triplets.true
 
-pub unit-of-requires : goal.unit-of-requires
-unit-of-requires c =
-    let h = inside (goal.at.unit-of-requires c).Then-index-triplets in
+pub unit_of-requires : goal.unit_of-requires
+unit_of-requires c =
+    let h = inside (goal.at.unit_of-requires c).Then-index-triplets in
     let m = c.args.roll.now.members (record { triplet = c.args.index; slot = 0; listed = h; small = omega arith }) in
     subst (λ (l : List Triplet). (get_or l c.args.index no_triplet).r < length (vec_items c.args.roll.now.channels)) (sym c.triplets-triplets.ensures) m.0
 
@@ -24,7 +24,7 @@ returns-then-index-triplets c =
     let k = c.args.index in
     let h : k < length ts = inside (goal.at.returns-then-index-triplets c).Then-index-triplets in
     let e = triplet-at es ts k h ∙ ap (λ (l : List Triplet). OfTriplet (get_or l k no_triplet)) (sym c.triplets-triplets.ensures) in
-    placed es ts k c.unit-of.result (OfTriplet (get_or c.triplets-triplets.result.now k no_triplet)) (omega (arith, count es ts)) e c.unit-of.ensures.channels c.unit-of.ensures.size
+    placed es ts k c.unit_of.result (OfTriplet (get_or c.triplets-triplets.result.now k no_triplet)) (omega (arith, count es ts)) e c.unit_of.ensures.channels c.unit_of.ensures.size
 
 -- what `lone_channel` was asked of
 abbrev Asked : List ChannelInfo → List Triplet → ℕ → Option ℕ → Type 0
@@ -33,21 +33,21 @@ Asked es ts n o = MatchOption o (length (lones_in es ts) ≤ n) (λ i. (n < leng
 said : {es fs : List ChannelInfo} {ts us : List Triplet} (k : ℕ) (o : Option ℕ) → es ≡ fs → ts ≡ us → Asked es ts (k - length ts) o → Asked fs us (k - length us) o
 said {es} {fs} {ts} {us} k o e f a = subst (λ l. Asked fs l (k - length l) o) f (subst (λ l. Asked l ts (k - length ts) o) e a)
 
-pub returns-in-err-channel : goal.returns-in-err-channel
-returns-in-err-channel c =
+pub returns-in_err-channel : goal.returns-in_err-channel
+returns-in_err-channel c =
     let es = vec_items c.args.roll.now.channels in
     let ts = vec_items c.args.roll.now.triplets in
     let k = c.args.index in
-    let n = said k None c.channels.ensures c.triplets-triplets.ensures c.in-err-channel.ensures in
+    let n = said k None c.channels.ensures c.triplets-triplets.ensures c.in_err-channel.ensures in
     let l : length ts ≤ k = omega (arith, ap length c.triplets-triplets.ensures, c.if-index-triplets.false) in
-    subst (UnitAt es ts k) (sym c.from-residual.ensures) (let past : length (units_in es ts) ≤ k = omega (arith, count es ts) in past)
+    subst (UnitAt es ts k) (sym c.from_residual.ensures) (let past : length (units_in es ts) ≤ k = omega (arith, count es ts) in past)
 
 pub returns : goal.returns
 returns c =
     let es = vec_items c.args.roll.now.channels in
     let ts = vec_items c.args.roll.now.triplets in
     let k = c.args.index in
-    let i = c.in-ok-channel.channel in
-    let n = said k (Some i) c.channels.ensures c.triplets-triplets.ensures c.in-ok-channel.ensures in
+    let i = c.in_ok-channel.channel in
+    let n = said k (Some i) c.channels.ensures c.triplets-triplets.ensures c.in_ok-channel.ensures in
     let l : length ts ≤ k = omega (arith, ap length c.triplets-triplets.ensures, c.if-index-triplets.false) in
-    placed es ts k c.unit-of-2.result (Lone i) (omega (arith, count es ts, n.0)) (lone_at es ts k l n.0 ∙ ap Lone (sym n.1)) c.unit-of-2.ensures.channels c.unit-of-2.ensures.size
+    placed es ts k c.unit_of-2.result (Lone i) (omega (arith, count es ts, n.0)) (lone_at es ts k l n.0 ∙ ap Lone (sym n.1)) c.unit_of-2.ensures.channels c.unit_of-2.ensures.size

@@ -9,8 +9,8 @@ pub returns : goal.returns
 returns c =
     let es = vec_items c.args.roll.now.channels in
     let ts = vec_items c.args.roll.now.triplets in
-    let l : c.lone-count.result ≡ length (lones_in es ts) =
-    c.lone-count.ensures.value
+    let l : c.lone_count.result ≡ length (lones_in es ts) =
+    c.lone_count.ensures.value
     ∙ ap (λ (x : List ChannelInfo). length (lones_in x c.triplets-triplets.result.now)) c.channels.ensures
     ∙ ap (λ (x : List Triplet). length (lones_in es x)) c.triplets-triplets.ensures in
     omega (arith, count es ts, ap length c.triplets-triplets.ensures)

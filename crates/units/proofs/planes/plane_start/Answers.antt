@@ -7,29 +7,29 @@ use Rattle.roll.specs.Kept.{Sides}
 use Rattle.units.specs.Units.{plane_area, plane_start, total_samples}
 use Rattle.units.proofs.EndToEnd.{front, sides-take, within-total, before-later}
 use Rattle.units.proofs.planes.plane_start.Goals as goal
-use Rattle.units.proofs.planes.plane_start.Goals.{Then-is-lossy}
+use Rattle.units.proofs.planes.plane_start.Goals.{Then-is_lossy}
 
-inside : (c : Then-is-lossy) → c.args.channel < length (vec_items c.args.roll.now.channels)
+inside : (c : Then-is_lossy) → c.args.channel < length (vec_items c.args.roll.now.channels)
 inside c = subst (λ (l : List ChannelInfo). c.args.channel < length l) c.channels-infos.ensures c.if-channel-infos.true
 
-pub samples-of-requires : goal.samples-of-requires
-samples-of-requires c =
+pub samples_of-requires : goal.samples_of-requires
+samples_of-requires c =
     let es = vec_items c.args.roll.now.channels in
     let n = c.args.channel in
-    let h : n < length es = inside (goal.at.samples-of-requires c).Then-is-lossy in
+    let h : n < length es = inside (goal.at.samples_of-requires c).Then-is_lossy in
     let e = front n c.channels-infos.ensures in
     record {
       few = omega (arith, ap length e, length-take-le n es (omega arith), c.args.roll.now.few);
       sides = subst Sides (sym e) (sides-take n es (omega arith) c.args.roll.now.sides);
     }
 
-pub returns-then-is-lossy : goal.returns-then-is-lossy
-returns-then-is-lossy c =
+pub returns-then-is_lossy : goal.returns-then-is_lossy
+returns-then-is_lossy c =
     let es = vec_items c.args.roll.now.channels in
     let n = c.args.channel in
-    let h : n < length es = inside (goal.at.returns-then-is-lossy c).Then-is-lossy in
-    let s : c.samples-of.result ≡ plane_start es n = c.samples-of.ensures.value ∙ ap total_samples (front n c.channels-infos.ensures) in
-    let lossy = sym (ap (λ (l : List ChannelInfo). is_lossy (get_or l n no_info).scheme) c.channels-infos.ensures) ∙ sym c.if-is-lossy.ensures in (
+    let h : n < length es = inside (goal.at.returns-then-is_lossy c).Then-is_lossy in
+    let s : c.samples_of.result ≡ plane_start es n = c.samples_of.ensures.value ∙ ap total_samples (front n c.channels-infos.ensures) in
+    let lossy = sym (ap (λ (l : List ChannelInfo). is_lossy (get_or l n no_info).scheme) c.channels-infos.ensures) ∙ sym c.if-is_lossy.ensures in (
       (h, lossy),
       s,
       subst (λ k. k + plane_area (get_or es n no_info) ≤ total_samples es) (sym s) (within-total es n h),

@@ -7,8 +7,8 @@ use Rattle.units.proofs.planes.samples_of.Goals as goal
 
 pub loop-info-preserved : goal.loop-info-preserved
 loop-info-preserved c = (
-  omega (arith, c.loop-info.invariant.0, c.plane-area-sum.ensures.value, sum_by_more plane_area c.args.infos.now c.loop-info.info-index no_info c.loop-info-test.true),
-  omega (arith, c.loop-info.invariant.1, c.plane-area-sum.ensures.bound),
+  omega (arith, c.loop-info.invariant.0, c.plane_area-sum.ensures.value, sum_by_more plane_area c.args.infos.now c.loop-info.info-index no_info c.loop-info-test.true),
+  omega (arith, c.loop-info.invariant.1, c.plane_area-sum.ensures.bound),
 )
 
 pub returns : goal.returns

@@ -6,13 +6,13 @@ use Rattle.plate_file.proofs.Letters.{name-inside}
 use Rattle.plate_file.proofs.plate.Header.add_channel.Goals as goal
 
 -- the text has only grown, and the new name lies inside it
-pub invariant-of-self-2 : goal.invariant-of-self-2
-invariant-of-self-2 c =
+pub invariant_of-self-2 : goal.invariant_of-self-2
+invariant_of-self-2 c =
     let old = c.args.self.now in
     let grew = c.quoted.ensures.kept in
     let text = vec_items c.quoted.new.text in
-    let fits = name-inside _ _ _ c.in-ok-name.name c.in-ok-name.ensures.value in (
-      pushed (λ channel. Inside text channel.name) no_channel (is_ok c.push.result) _ _ _ c.push.ensures.items (λ k h. omega (arith, old.named k h))
-          (rw c.in-ok-channel.ensures.name (omega arith)),
-      (λ k h. omega (arith, old.suffixed k h), tt),
-    )
+    let fits = name-inside _ _ _ c.in_ok-name.name c.in_ok-name.ensures.value in record {
+      named = pushed (λ channel. Inside text channel.name) no_channel (is_ok c.push.result) _ _ _ c.push.ensures.items (λ k h. omega (arith, old.named k h))
+          (rw c.in_ok-channel.ensures.name (omega arith));
+      suffixed = λ k h. omega (arith, old.suffixed k h);
+    }

@@ -3,5 +3,5 @@ use Rattle.std.proofs.lemmas.List.Sums.{prefix_len-le-length}
 use Rattle.plate_file.specs.Fields.{in_run}
 use Rattle.plate_file.proofs.reader.Reader.pass.Goals as goal
 
-pub split-at-requires : goal.split-at-requires
-split-at-requires c = omega (arith, c.count.ensures, prefix_len-le-length (in_run c.args.run) c.args.self.now.left.now)
+pub split_at-requires : goal.split_at-requires
+split_at-requires c = omega (arith, c.count.ensures, prefix_len-le-length (in_run c.args.run) c.args.self.now.left.now)
