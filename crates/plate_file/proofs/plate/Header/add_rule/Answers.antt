@@ -14,5 +14,5 @@ invariant_of-self-2 c =
     let fits = name-inside _ _ _ c.in_ok-suffix.suffix c.in_ok-suffix.ensures.value in record {
       named = λ k h. omega (arith, old.named k h);
       suffixed = pushed (λ rule. Inside text rule.suffix) no_rule (is_ok c.push.result) _ _ _ c.push.ensures.items (λ k h. omega (arith, old.suffixed k h))
-            (rw c.in_ok-rule.ensures.suffix (omega arith));
+          (rw c.in_ok-rule.ensures.suffix (omega arith));
     }
