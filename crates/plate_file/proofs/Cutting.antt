@@ -1,9 +1,12 @@
 -- A line is its first field and the others; a file its first line and the others.
-use Rattle.std.proofs.Common.{◌≡◌, ℕ, zero, suc, ◌+◌, ◌<◌, Bool, true, false, cond, not, eqb, List, [], ◌∷◌, length, take, drop, Some, None, Option, sym, refl, ap, ◌∙◌, one-add, arith, Bor}
+use Rattle.std.proofs.Common.{◌≡◌, ℕ, ◌+◌, ◌-◌, ◌<◌, Bool, true, false, cond, not, ◌&&◌, ◌||◌, eqb, List, [], ◌∷◌, length, take, drop, Some, None, Option, sym, refl, ap, ◌∙◌, one-add, arith, Bor}
 use Rattle.std.specs.List.{prefix_len}
+use Rattle.std.proofs.lemmas.List.Recursion.{is_count_by}
 use Rattle.plate_file.specs.declared.reader.Run.{Run}
 use Rattle.plate_file.specs.declared.reader.Run.TheVariants.{Blanks, Field, Line}
-use Rattle.plate_file.specs.Fields.{is_blank, in_run, front, past, field_in, after_field, goes_on, fields_of, on_first, lines_of}
+use Rattle.plate_file.specs.Reading.{in_run, front, past, field_in, after_field}
+use Rattle.plate_file.specs.Fields.{goes_on, fields_of, on_first, lines_of}
+use Rattle.plate_file.specs.Lines.{line_ends}
 
 -- a byte of the sort stands first
 front-more : (run : Run) (b : ℕ) (bs : List ℕ) → in_run run b ≡ true → front run (b ∷ bs) ≡ b ∷ front run bs
@@ -24,30 +27,48 @@ abbrev with_field : List ℕ → List ℕ → List (List ℕ)
 with_field [] rest = []
 with_field (b ∷ field) rest = (b ∷ field) ∷ fields_of rest
 
+-- what a field goes on with is no blank
+no_blank : (b : ℕ) → in_run Field b ≡ true → in_run Blanks b ≡ false
+no_blank b e = at (eqb b 32) (eqb b 9) (eqb b 10) e
+  where
+    at : (x y z : Bool) → (not x && not y && not z) ≡ true → (x || y) ≡ false
+    at false false z e = refl
+    at false true z e = absurd (let z : ◌≡◌ {A = ℕ} 0 1 = cc in omega arith)
+    at true y z e = absurd (let z : ◌≡◌ {A = ℕ} 0 1 = cc in omega arith)
+
+-- the fields of a line by its first byte
+abbrev by_first : ℕ → List ℕ → Bool → Bool → List (List ℕ)
+by_first b bs blank field = cond blank (fields_of bs) (cond field (cond (goes_on bs) (on_first b (fields_of bs)) ((b ∷ []) ∷ fields_of bs)) [])
+
 fields_step : (bs : List ℕ) → fields_of bs ≡ with_field (field_in bs) (after_field bs)
 fields_step [] = refl
-fields_step (b ∷ bs) = at (is_blank b) refl (fields_step bs)
+fields_step (b ∷ bs) = at (in_run Blanks b) refl (in_run Field b) refl (fields_step bs)
   where
     within : (bs : List ℕ) → fields_of bs ≡ with_field (field_in bs) (after_field bs) → cond (goes_on bs) (on_first b (fields_of bs)) ((b ∷ []) ∷ fields_of bs) ≡ (b ∷ front Field bs) ∷ fields_of (past Field bs)
     within [] more = refl
-    within (x ∷ bs) more = by (is_blank x) refl
+    within (x ∷ bs) more = by (in_run Field x) refl
       where
-        by : (t : Bool) → is_blank x ≡ t → cond (not (is_blank x)) (on_first b (fields_of (x ∷ bs))) ((b ∷ []) ∷ fields_of (x ∷ bs)) ≡ (b ∷ front Field (x ∷ bs)) ∷ fields_of (past Field (x ∷ bs))
-        by true e =
-            ap (λ t. cond (not t) (on_first b (fields_of (x ∷ bs))) ((b ∷ []) ∷ fields_of (x ∷ bs))) e
-            ∙ (λ i. (b ∷ sym (front-none Field x bs (ap not e)) i) ∷ fields_of (sym (past-none Field x bs (ap not e)) i))
+        by : (t : Bool) → in_run Field x ≡ t → cond (in_run Field x) (on_first b (fields_of (x ∷ bs))) ((b ∷ []) ∷ fields_of (x ∷ bs)) ≡ (b ∷ front Field (x ∷ bs)) ∷ fields_of (past Field (x ∷ bs))
         by false e =
-            ap (λ t. cond (not t) (on_first b (fields_of (x ∷ bs))) ((b ∷ []) ∷ fields_of (x ∷ bs))) e
-            ∙ ap (on_first b) (more ∙ (λ i. with_field (front Field (past-none Blanks x bs e i)) (past Field (past-none Blanks x bs e i))) ∙ ap (λ f. with_field f (past Field (x ∷ bs))) (front-more Field x bs (ap not e)))
-            ∙ (λ i. (b ∷ sym (front-more Field x bs (ap not e)) i) ∷ fields_of (past Field (x ∷ bs)))
+            ap (λ t. cond t (on_first b (fields_of (x ∷ bs))) ((b ∷ []) ∷ fields_of (x ∷ bs))) e
+            ∙ (λ i. (b ∷ sym (front-none Field x bs e) i) ∷ fields_of (sym (past-none Field x bs e) i))
+        by true e =
+            let none = past-none Blanks x bs (no_blank x e) in
+            ap (λ t. cond t (on_first b (fields_of (x ∷ bs))) ((b ∷ []) ∷ fields_of (x ∷ bs))) e
+            ∙ ap (on_first b) (more ∙ (λ i. with_field (front Field (none i)) (past Field (none i))) ∙ ap (λ f. with_field f (past Field (x ∷ bs))) (front-more Field x bs e))
+            ∙ (λ i. (b ∷ sym (front-more Field x bs e) i) ∷ fields_of (past Field (x ∷ bs)))
 
-    at : (t : Bool) → is_blank b ≡ t → fields_of bs ≡ with_field (field_in bs) (after_field bs) → fields_of (b ∷ bs) ≡ with_field (field_in (b ∷ bs)) (after_field (b ∷ bs))
-    at true e more =
-        ap (λ t. cond t (fields_of bs) (cond (goes_on bs) (on_first b (fields_of bs)) ((b ∷ []) ∷ fields_of bs))) e ∙ more
+    at : (t : Bool) → in_run Blanks b ≡ t → (u : Bool) → in_run Field b ≡ u → fields_of bs ≡ with_field (field_in bs) (after_field bs) → fields_of (b ∷ bs) ≡ with_field (field_in (b ∷ bs)) (after_field (b ∷ bs))
+    at true e u f more =
+        ap (λ t. by_first b bs t (in_run Field b)) e ∙ more
         ∙ (λ i. with_field (front Field (sym (past_more Blanks b bs e) i)) (past Field (sym (past_more Blanks b bs e) i)))
-    at false e more =
-        ap (λ t. cond t (fields_of bs) (cond (goes_on bs) (on_first b (fields_of bs)) ((b ∷ []) ∷ fields_of bs))) e ∙ within bs more
-        ∙ (λ i. with_field (sym (front-more Field b bs (ap not e)) i) (sym (past_more Field b bs (ap not e)) i))
+    at false e true f more =
+        (λ i. by_first b bs (e i) (f i)) ∙ within bs more
+        ∙ (λ i. with_field (sym (front-more Field b bs f) i) (sym (past_more Field b bs f) i))
+        ∙ (λ i. with_field (front Field (sym (past-none Blanks b bs e) i)) (past Field (sym (past-none Blanks b bs e) i)))
+    at false e false f more =
+        (λ i. by_first b bs (e i) (f i))
+        ∙ (λ i. with_field (sym (front-none Field b bs f) i) (past Field (b ∷ bs)))
         ∙ (λ i. with_field (front Field (sym (past-none Blanks b bs e) i)) (past Field (sym (past-none Blanks b bs e) i)))
 
 pub no_fields : (bs : List ℕ) → length (field_in bs) ≡ 0 → fields_of bs ≡ []
@@ -97,6 +118,21 @@ next-lines bs rest e h = first-line bs ∙ ap (λ q. front Line bs ∷ lines_beh
 
 pub some-line : (bs : List ℕ) → 0 < length (lines_of bs)
 some-line bs = rw (first-line bs) (omega arith)
+
+length-on_first : (b : ℕ) (ls : List (List ℕ)) → 0 < length ls → length (on_first b ls) ≡ length ls
+length-on_first b [] h = absurd (let z : ⊥ = omega arith in z)
+length-on_first b (l ∷ ls) h = refl
+
+-- a file has one line more than line feeds
+pub lines_counted : (bs : List ℕ) → length (lines_of bs) ≡ line_ends bs + 1
+lines_counted bs = omega (arith, some-line bs, is_count_by (λ bs. length (lines_of bs) - 1) (λ byte. eqb byte 10) refl step bs)
+  where
+    at : (b : ℕ) (ls : List (List ℕ)) (t : Bool) → 0 < length ls → length (cond t ([] ∷ ls) (on_first b ls)) - 1 ≡ cond t (1 + (length ls - 1)) (length ls - 1)
+    at b ls true some = omega arith
+    at b ls false some = omega (arith, length-on_first b ls some)
+
+    step : (b : ℕ) (bs : List ℕ) → length (lines_of (b ∷ bs)) - 1 ≡ cond (eqb b 10) (1 + (length (lines_of bs) - 1)) (length (lines_of bs) - 1)
+    step b bs = at b (lines_of bs) (eqb b 10) (some-line bs)
 
 -- what is left of a file, with a place for the line that begins there
 abbrev pub bytes_left : Option (Bor (List ℕ)) → ℕ

@@ -1,10 +1,11 @@
 -- A name between its quotes.
-use Rattle.std.proofs.Common.{◌≡◌, ℕ, ◌+◌, ◌<◌, ◌≤◌, Bool, true, false, cond, not, eqb, List, [], ◌∷◌, length, get_or, drop, Ok, Err, Result, sym, refl, ap, ◌∙◌, subst, arith}
+use Rattle.std.proofs.Common.{◌≡◌, ℕ, ◌+◌, ◌<◌, ◌≤◌, true, false, cond, not, eqb, List, [], ◌∷◌, length, get_or, drop, Ok, Err, sym, refl, ap, ◌∙◌, arith}
 use Rattle.std.specs.List.{prefix_len}
 use Rattle.std.proofs.lemmas.Bool.{eq-eqb, ne_eqb}
 use Rattle.plate_file.specs.declared.reader.Run.TheVariants.{Blanks, Field, Letters}
 use Rattle.plate_file.specs.declared.problem.Problem.TheVariants.{BadName}
-use Rattle.plate_file.specs.Fields.{in_run, is_blank, front, past, goes_on}
+use Rattle.plate_file.specs.Reading.{in_run, front, past}
+use Rattle.plate_file.specs.Fields.{goes_on}
 use Rattle.plate_file.specs.Quoted.{opened, closed, written_in, after_name}
 
 quote_first : (q : List ℕ) → 0 < length q → get_or q 0 0 ≡ 34 → opened q ≡ closed (front Letters (drop 1 q)) (past Letters (drop 1 q))
@@ -27,7 +28,7 @@ never-closed w (b ∷ e) h = absurd (let z : ⊥ = omega arith in z)
 
 run_on : (bs : List ℕ) → goes_on bs ≡ not (eqb (prefix_len (in_run Field) bs) 0)
 run_on [] = refl
-run_on (b ∷ bs) = elim (is_blank b) as (λ t. not t ≡ not (eqb (cond (not t) (1 + prefix_len (in_run Field) bs) 0) 0)) [ true ↦ refl | false ↦ sym (ap not (ne_eqb (1 + prefix_len (in_run Field) bs) 0 (λ e. omega arith))) ]
+run_on (b ∷ bs) = elim (in_run Field b) as (λ t. t ≡ not (eqb (cond t (1 + prefix_len (in_run Field) bs) 0) 0)) [ false ↦ refl | true ↦ sym (ap not (ne_eqb (1 + prefix_len (in_run Field) bs) 0 (λ e. omega arith))) ]
 
 closed_at : (w e : List ℕ) → 0 < length e → closed w e ≡ cond (eqb (prefix_len (in_run Field) (drop 1 e)) 0) (Ok w) (Err BadName)
 closed_at w [] h = absurd (let z : ⊥ = omega arith in z)

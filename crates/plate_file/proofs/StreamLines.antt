@@ -1,15 +1,15 @@
 -- The lines of a stream, and the words that they write.
-use Rattle.std.proofs.Common.{◌≡◌, ℕ, zero, suc, ◌+◌, ◌-◌, ◌<◌, ◌≤◌, Bool, true, false, cond, ◌||◌, eqb, ◌⊎◌, List, [], ◌∷◌, ◌++◌, map, length, get_or, Some, None, Ok, Err, Option, Result, sym, refl, ap, ◌∙◌, subst, inl, inr, arith}
+use Rattle.std.proofs.Common.{◌≡◌, ℕ, zero, suc, ◌-◌, ◌≤◌, Bool, true, false, cond, eqb, ◌⊎◌, List, [], ◌∷◌, ◌++◌, map, length, get_or, Some, None, Ok, Err, Option, Result, sym, refl, ap, ◌∙◌, subst, inl, inr, arith}
 use Rattle.std.specs.List.{flat_map}
 use Rattle.std.proofs.lemmas.List.{append_assoc, append-nil, length-append, length-map, map-append}
 use Rattle.std.proofs.lemmas.Bool.{or_parts, eqb-false, eqb-true, ne_eqb}
-use Rattle.plate_file.specs.declared.keywords.Keyword.{Keyword}
 use Rattle.plate_file.specs.declared.problem.Problem.{Problem}
-use Rattle.plate_file.specs.Fields.{fields_of, field_in, after_field}
+use Rattle.plate_file.specs.Reading.{field_in, after_field}
+use Rattle.plate_file.specs.Fields.{fields_of}
 use Rattle.plate_file.specs.Hex.{hex_word}
 use Rattle.plate_file.specs.Words.{meant, keywords}
 use Rattle.plate_file.specs.Steps.{and_then, found}
-use Rattle.plate_file.specs.Streams.{no_word, word_in, words_in, Stream, longer}
+use Rattle.plate_file.specs.Streams.{no_word, words_in, Stream, longer}
 use Rattle.plate_file.specs.File.{Progress, is_idle, line_after}
 use Rattle.plate_file.specs.Writes.{fields_said}
 use Rattle.plate_file.proofs.Cutting.{first_field}

@@ -1,5 +1,5 @@
 -- A file is read as what it writes, and only as that.
-use Rattle.std.proofs.Common.{◌≡◌, ℕ, ◌-◌, ◌≤◌, Bool, true, false, cond, eqb, ◌⊎◌, List, [], ◌∷◌, ◌++◌, map, length, Some, None, Ok, Err, MatchBool, Option, Result, sym, refl, ap, ◌∙◌, subst, inl, inr, arith}
+use Rattle.std.proofs.Common.{◌≡◌, ℕ, ◌-◌, Bool, true, false, cond, ◌⊎◌, List, [], ◌∷◌, ◌++◌, map, length, Some, None, Ok, Err, MatchBool, Option, Result, sym, refl, ap, ◌∙◌, subst, inl, inr, arith}
 use Rattle.std.specs.List.{flat_map}
 use Rattle.channel_rules.specs.declared.records.IntegerBounds.{IntegerBounds}
 use Rattle.plate_file.specs.declared.keywords.Keyword.{Keyword}
@@ -7,17 +7,18 @@ use Rattle.plate_file.specs.declared.keywords.Keyword.TheVariants.{Rectangle, Ch
 use Rattle.plate_file.specs.declared.plate.Plate.{Plate}
 use Rattle.plate_file.specs.declared.problem.Malformed.{Malformed}
 use Rattle.plate_file.specs.declared.problem.Problem.{Problem}
-use Rattle.plate_file.specs.Fields.{lines_of, field_in, after_field}
+use Rattle.plate_file.specs.Reading.{field_in, after_field}
+use Rattle.plate_file.specs.Fields.{lines_of}
 use Rattle.plate_file.specs.Words.{meant, keywords}
 use Rattle.plate_file.specs.Steps.{and_then}
 use Rattle.plate_file.specs.Headings.{Heading, no_heading, with_rectangle, with_channel, with_rule}
 use Rattle.plate_file.specs.Streams.{count_in}
 use Rattle.plate_file.specs.File.{Contents, Progress, opening, headed, in_dc, in_ac, first_in, is_idle, begun, after_heading, after_dc, after_ac, contents, with_dc, with_ac, started, line_after, lines_after, file_in, Answered}
 use Rattle.plate_file.specs.Hex.{hex_word}
-use Rattle.plate_file.specs.Writes.{AddsBy, Adds, AllAdd, fields_said, StreamWritten, heading_of, Writes, Faithful}
+use Rattle.plate_file.specs.Writes.{AddsBy, AllAdd, fields_said, heading_of, Writes, Faithful}
 use Rattle.plate_file.proofs.Sequence.{not_ok}
 use Rattle.plate_file.proofs.Runs.{Reads, joined_runs, run_answers, answer_runs, ends_in_ac}
-use Rattle.plate_file.proofs.StreamLines.{stream_step, stream_read, stream_written, Ends, Leaves}
+use Rattle.plate_file.proofs.StreamLines.{stream_read, stream_written, Ends, Leaves}
 
 -- a line before the streams, idle or not, by its first word
 abbrev head_step : Heading → Bool → Option Keyword → List ℕ → Result Progress Problem

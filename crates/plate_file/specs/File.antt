@@ -1,5 +1,5 @@
 -- What a whole file says, line by line, or its first fault.
-use Rattle.std.specs.Prelude.{◌≡◌, ℕ, zero, suc, ◌+◌, ◌-◌, Bool, cond, ◌||◌, ◌⊎◌, List, [], ◌∷◌, ◌++◌, length, take, drop, Some, None, Ok, Err, vec_items, codes, Option, Result, ◌==◌, slice_index}
+use Rattle.std.specs.Prelude.{◌≡◌, ℕ, ◌+◌, Bool, cond, ◌||◌, ◌⊎◌, List, [], ◌∷◌, length, take, drop, Some, None, Ok, Err, vec_items, codes, Option, Result, ◌==◌, slice_index}
 use Rattle.std.specs.Str.{bytes_eq}
 use Rattle.channel_rules.specs.declared.records.IntegerBounds.{IntegerBounds}
 use Rattle.channel_rules.specs.declared.records.ChannelDescription.{ChannelDescription}
@@ -12,7 +12,8 @@ use Rattle.plate_file.specs.declared.draft.Draft.TheVariants.{Opening, Heading a
 use Rattle.plate_file.specs.declared.problem.Malformed.{Malformed}
 use Rattle.plate_file.specs.declared.problem.Problem.{Problem}
 use Rattle.plate_file.specs.declared.problem.Problem.TheVariants.{NotAPlate, UnknownWord, MissingRectangle, MissingStream, TooFewWords, TooManyWords, OutOfPlace, OutOfMemory}
-use Rattle.plate_file.specs.Fields.{lines_of, fields_of, field_in, after_field}
+use Rattle.plate_file.specs.Reading.{field_in, after_field}
+use Rattle.plate_file.specs.Fields.{lines_of, fields_of}
 use Rattle.plate_file.specs.Words.{meant, keywords}
 use Rattle.plate_file.specs.Steps.{and_then, ended, Fault}
 use Rattle.plate_file.specs.Headings.{Heading, heading, no_heading, with_rectangle, with_channel, with_rule}

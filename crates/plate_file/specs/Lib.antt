@@ -1,8 +1,10 @@
+pub mod Reading
 pub mod Fields
-pub mod Steps
 pub mod Hex
 pub mod Decimal
 pub mod Words
+pub mod Inside
+pub mod Steps
 pub mod Quoted
 pub mod Lines
 pub mod Headings

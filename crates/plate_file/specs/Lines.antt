@@ -1,5 +1,5 @@
--- What the lines before the streams say, behind their first word.
-use Rattle.std.specs.Prelude.{ℕ, Bool, true, false, cond, List, length, Some, None, Ok, Err, codes, Option, Result, ◌==◌}
+-- The lines of a file, and what those before the streams say behind their first word.
+use Rattle.std.specs.Prelude.{◌≡◌, ℕ, Bool, true, false, cond, List, length, ℤ, Some, None, Ok, Err, codes, count_by, Option, Result, ◌==◌, nat_eq}
 use Rattle.std.specs.Str.{bytes_eq}
 use Rattle.channel_rules.specs.declared.records.Part.{Part}
 use Rattle.channel_rules.specs.declared.records.IntegerBounds.{IntegerBounds}
@@ -9,14 +9,53 @@ use Rattle.channel_rules.specs.declared.records.SampleType.{SampleType}
 use Rattle.channel_rules.specs.declared.records.Rule.{Rule}
 use Rattle.plate_file.specs.declared.problem.Problem.{Problem}
 use Rattle.plate_file.specs.declared.problem.Problem.TheVariants.{ExtraField, UnknownSampleType, UnknownScheme}
-use Rattle.plate_file.specs.Fields.{field_in, after_field}
-use Rattle.plate_file.specs.Decimal.{unsigned_in, signed_in}
-use Rattle.plate_file.specs.Words.{meant, types, schemes}
-use Rattle.plate_file.specs.Steps.{and_then, present, found, ended}
+use Rattle.plate_file.specs.Reading.{field_in, after_field}
+use Rattle.plate_file.specs.Decimal.{Unsigned, Signed, unsigned_in, signed_in}
+use Rattle.plate_file.specs.Words.{TypeWord, SchemeWord, meant, types, schemes}
+use Rattle.plate_file.specs.Steps.{and_then, present, found, numbered, ended}
+
+-- how many lines end in these bytes
+abbrev pub line_ends : List ℕ → ℕ
+line_ends bs = count_by (λ byte. nat_eq byte 10) bs
+
+-- the next four fields are left, top, width and height
+pub record RectangleIn (bs : List ℕ) (bounds : IntegerBounds) : Type 0 where
+  pub left : Signed (field_in bs) (Ok bounds.left)
+  pub top : Signed (field_in (after_field bs)) (Ok bounds.top)
+  pub width : Unsigned (field_in (after_field (after_field bs))) (Ok bounds.width)
+  pub height : Unsigned (field_in (after_field (after_field (after_field bs)))) (Ok bounds.height)
+
+-- a slot is a number, or `-` for none
+abbrev pub SlotIn : List ℕ → Option ℕ → Type 0
+SlotIn bs None = bs ≡ codes "-"
+SlotIn bs (Some slot) = Unsigned bs (Ok slot)
+
+-- an optional last field is the word, or is not there
+abbrev pub FlagIn : List ℕ → List ℕ → Bool → Type 0
+FlagIn bs word true = bs ≡ word
+FlagIn bs word false = length bs ≡ 0
+
+-- the fields behind a channel's name
+pub record ChannelIn (bs : List ℕ) (channel : ChannelDescription) : Type 0 where
+  pub type : TypeWord (field_in bs) (Some channel.sample_type)
+  pub x : Unsigned (field_in (after_field bs)) (Ok channel.x_sampling)
+  pub y : Unsigned (field_in (after_field (after_field bs))) (Ok channel.y_sampling)
+  pub linear : FlagIn (field_in (after_field (after_field (after_field bs)))) (codes "linear") channel.quantize_linearly
+
+-- the fields behind a rule's suffix
+pub record RuleIn (bs : List ℕ) (rule : Rule) : Type 0 where
+  pub scheme : SchemeWord (field_in bs) (Some rule.scheme)
+  pub type : TypeWord (field_in (after_field bs)) (Some rule.sample_type)
+  pub slot : SlotIn (field_in (after_field (after_field bs))) rule.csc_index
+  pub case : FlagIn (field_in (after_field (after_field (after_field bs)))) (codes "ignore-case") rule.case_insensitive
 
 -- the next field is a number
 abbrev pub number_next : List ℕ → Result ℕ Problem
-number_next bs = present unsigned_in (field_in bs)
+number_next bs = present (λ field. numbered (unsigned_in field)) (field_in bs)
+
+-- it is a number with a sign
+abbrev pub signed_next : List ℕ → Result ℤ Problem
+signed_next bs = present (λ field. numbered (signed_in field)) (field_in bs)
 
 -- it is a word for a sample type
 abbrev pub type_next : List ℕ → Result SampleType Problem
@@ -28,7 +67,7 @@ scheme_next bs = present (λ field. found UnknownScheme (meant schemes field)) (
 
 -- a slot is a number, or `-` for none
 abbrev slot_in : List ℕ → Result (Option ℕ) Problem
-slot_in field = cond (bytes_eq field (codes "-")) (Ok None) (and_then (unsigned_in field) (λ slot. Ok (Some slot)))
+slot_in field = cond (bytes_eq field (codes "-")) (Ok None) (and_then (numbered (unsigned_in field)) (λ slot. Ok (Some slot)))
 
 -- the next field is a slot
 abbrev pub slot_next : List ℕ → Result (Option ℕ) Problem
@@ -46,8 +85,8 @@ rectangle_in bs =
     let top_on = after_field bs in
     let width_on = after_field top_on in
     let height_on = after_field width_on in
-    and_then (present signed_in (field_in bs)) (λ left.
-    and_then (present signed_in (field_in top_on)) (λ top.
+    and_then (signed_next bs) (λ left.
+    and_then (signed_next top_on) (λ top.
     and_then (number_next width_on) (λ width.
     and_then (number_next height_on) (λ height.
     and_then (ended ExtraField (field_in (after_field height_on))) (λ _.

@@ -4,7 +4,8 @@ use Rattle.channel_rules.specs.declared.records.Part.{Part}
 use Rattle.plate_file.specs.declared.reader.Run.TheVariants.{Blanks, Letters}
 use Rattle.plate_file.specs.declared.problem.Problem.{Problem}
 use Rattle.plate_file.specs.declared.problem.Problem.TheVariants.{MissingField, BadName}
-use Rattle.plate_file.specs.Fields.{front, past, goes_on}
+use Rattle.plate_file.specs.Reading.{front, past}
+use Rattle.plate_file.specs.Fields.{goes_on}
 use Rattle.plate_file.specs.Hex.{hex_pair, before}
 use Rattle.plate_file.specs.Steps.{and_then, found}
 

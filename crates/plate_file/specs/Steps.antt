@@ -1,7 +1,9 @@
 -- One thing is read after another, up to the first fault.
 use Rattle.std.specs.Prelude.{◌≡◌, ℕ, ◌⊎◌, List, [], ◌∷◌, Some, None, Ok, Err, Option, Result}
 use Rattle.plate_file.specs.declared.problem.Problem.{Problem}
-use Rattle.plate_file.specs.declared.problem.Problem.TheVariants.{MissingField, OutOfMemory}
+use Rattle.plate_file.specs.declared.problem.Problem.TheVariants.{MissingField, NotANumber, OutOfRange, OutOfMemory}
+use Rattle.plate_file.specs.declared.numbers.NumberFault.{NumberFault}
+use Rattle.plate_file.specs.declared.numbers.NumberFault.TheVariants.{NotANumber as NoNumber, OutOfRange as TooLarge}
 
 -- first one thing; where it is well, what follows from it
 abbrev pub and_then : {A B : Type 0} → Result A Problem → (A → Result B Problem) → Result B Problem
@@ -17,6 +19,16 @@ present read (b ∷ bs) = read (b ∷ bs)
 abbrev pub found : {A : Type 0} → Problem → Option A → Result A Problem
 found problem None = Err problem
 found problem (Some a) = Ok a
+
+-- the fault of a number as one of the file
+abbrev pub problem_of : NumberFault → Problem
+problem_of NoNumber = NotANumber
+problem_of TooLarge = OutOfRange
+
+-- a number, or its fault as one of the file
+abbrev pub numbered : {A : Type 0} → Result A NumberFault → Result A Problem
+numbered (Ok a) = Ok a
+numbered (Err fault) = Err (problem_of fault)
 
 -- nothing may stand here
 abbrev pub ended : Problem → List ℕ → Result (Unit {0}) Problem

@@ -1,9 +1,9 @@
 -- What a stream's lines say: a count, and then the words.
-use Rattle.std.specs.Prelude.{ℕ, zero, suc, ◌-◌, cond, List, [], ◌∷◌, ◌++◌, length, Some, None, Ok, Err, Option, Result}
+use Rattle.std.specs.Prelude.{ℕ, zero, suc, ◌-◌, List, [], ◌∷◌, ◌++◌, length, Some, None, Ok, Err, Option, Result}
 use Rattle.plate_file.specs.declared.keywords.Keyword.{Keyword}
 use Rattle.plate_file.specs.declared.problem.Problem.{Problem}
 use Rattle.plate_file.specs.declared.problem.Problem.TheVariants.{ExtraField, BadStreamWord, TooFewWords, TooManyWords}
-use Rattle.plate_file.specs.Fields.{field_in, after_field}
+use Rattle.plate_file.specs.Reading.{field_in, after_field}
 use Rattle.plate_file.specs.Hex.{hex_word}
 use Rattle.plate_file.specs.Words.{meant, keywords}
 use Rattle.plate_file.specs.Steps.{and_then, found, ended}

@@ -6,7 +6,8 @@ use Rattle.plate_file.specs.declared.keywords.Keyword.TheVariants.{Rectangle, Ch
 use Rattle.plate_file.specs.declared.plate.Plate.{Plate}
 use Rattle.plate_file.specs.declared.problem.Malformed.{Malformed}
 use Rattle.plate_file.specs.declared.problem.Problem.TheVariants.{OutOfMemory}
-use Rattle.plate_file.specs.Fields.{lines_of, fields_of, field_in, after_field}
+use Rattle.plate_file.specs.Reading.{field_in, after_field}
+use Rattle.plate_file.specs.Fields.{lines_of, fields_of}
 use Rattle.plate_file.specs.Hex.{hex_word}
 use Rattle.plate_file.specs.Words.{meant, keywords}
 use Rattle.plate_file.specs.Headings.{Heading, no_heading, with_rectangle, with_channel, with_rule}

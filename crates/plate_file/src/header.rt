@@ -1,9 +1,9 @@
 // What stands before the streams.
-ghost use Rattle.std.specs.Prelude.{◌≡◌};
-ghost use Rattle.plate_file.specs.Fields.{unread};
+ghost use Rattle.std.specs.Prelude.{◌≡◌, ◌≤◌};
+ghost use Rattle.plate_file.specs.Reading.{unread, ahead};
 ghost use Rattle.plate_file.specs.Headings.{heading, no_heading, with_rectangle, with_channel, with_rule, Says};
 
-use crate::lines::{channel, rectangle, rule};
+use crate::lines::{channel_named, rectangle, rule_for};
 use crate::names::quoted;
 use crate::plate::Header;
 use crate::problem::Problem;
@@ -23,7 +23,8 @@ impl Header {
     }
 
     pub(crate) fn add_rectangle(&mut self, reader: &mut Reader<'_>) -> Result<(), Problem>
-        ensures { Says (with_rectangle (heading self.old) (unread reader.old)) self.new result }
+        ensures len { ahead reader.new ≤ ahead reader.old }
+        ensures says { Says (with_rectangle (heading self.old) (unread reader.old)) self.new result }
     {
         if self.rectangle.is_some() {
             return Err(Problem::SecondRectangle);
@@ -33,18 +34,20 @@ impl Header {
     }
 
     pub(crate) fn add_channel(&mut self, reader: &mut Reader<'_>) -> Result<(), Problem>
-        ensures { Says (with_channel (heading self.old) (unread reader.old)) self.new result }
+        ensures len { ahead reader.new ≤ ahead reader.old }
+        ensures says { Says (with_channel (heading self.old) (unread reader.old)) self.new result }
     {
         let name = quoted(reader, &mut self.text)?;
-        self.channels.push(channel(reader, name)?)?;
+        self.channels.push(channel_named(reader, name)?)?;
         Ok(())
     }
 
     pub(crate) fn add_rule(&mut self, reader: &mut Reader<'_>) -> Result<(), Problem>
-        ensures { Says (with_rule (heading self.old) (unread reader.old)) self.new result }
+        ensures len { ahead reader.new ≤ ahead reader.old }
+        ensures says { Says (with_rule (heading self.old) (unread reader.old)) self.new result }
     {
         let suffix = quoted(reader, &mut self.text)?;
-        self.rules.push(rule(reader, suffix)?)?;
+        self.rules.push(rule_for(reader, suffix)?)?;
         Ok(())
     }
 }

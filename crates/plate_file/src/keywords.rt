@@ -1,7 +1,7 @@
 // The words of the format.
-ghost use Rattle.std.specs.Prelude.{◌≡◌};
+ghost use Rattle.std.specs.Prelude.{◌≡◌, Decides};
 ghost use Rattle.std.specs.Str.{bytes_eq};
-ghost use Rattle.plate_file.specs.Words.{meant, keywords, types, schemes};
+ghost use Rattle.plate_file.specs.Words.{LineWord, TypeWord, SchemeWord, meant, keywords, types, schemes};
 
 use channel_rules::{CompressorScheme, SampleType};
 
@@ -16,13 +16,15 @@ pub(crate) enum Keyword {
 }
 
 pub(crate) fn is(field: &[u8], word: &[u8]) -> bool
-    ensures { result ≡ bytes_eq field.now word.now }
+    ensures same { Decides result (field.now ≡ word.now) }
+    ensures exact { result ≡ bytes_eq field.now word.now }
 {
     field == word
 }
 
 pub(crate) fn keyword_of(field: &[u8]) -> Option<Keyword>
-    ensures { result ≡ meant keywords field.now }
+    ensures word { LineWord field.now result }
+    ensures exact { result ≡ meant keywords field.now }
 {
     if is(field, b"rectangle") {
         Some(Keyword::Rectangle)
@@ -40,7 +42,8 @@ pub(crate) fn keyword_of(field: &[u8]) -> Option<Keyword>
 }
 
 pub(crate) fn sample_type_of(field: &[u8]) -> Option<SampleType>
-    ensures { result ≡ meant types field.now }
+    ensures word { TypeWord field.now result }
+    ensures exact { result ≡ meant types field.now }
 {
     if is(field, b"u32") {
         Some(SampleType::U32)
@@ -54,7 +57,8 @@ pub(crate) fn sample_type_of(field: &[u8]) -> Option<SampleType>
 }
 
 pub(crate) fn scheme_of(field: &[u8]) -> Option<CompressorScheme>
-    ensures { result ≡ meant schemes field.now }
+    ensures word { SchemeWord field.now result }
+    ensures exact { result ≡ meant schemes field.now }
 {
     if is(field, b"unknown") {
         Some(CompressorScheme::Unknown)

@@ -1,9 +1,9 @@
 // The fields of a rectangle, a channel and a rule.
-ghost use Rattle.std.specs.Prelude.{◌≡◌, IfOk};
-ghost use Rattle.plate_file.specs.Decimal.{signed_in};
-ghost use Rattle.plate_file.specs.Fields.{field_in, after_field, unread};
-ghost use Rattle.plate_file.specs.Lines.{number_next, type_next, scheme_next, slot_next, flag_next, rectangle_in, channel_in, rule_in};
-ghost use Rattle.plate_file.specs.Steps.{present};
+ghost use Rattle.std.specs.Prelude.{◌≡◌, ◌≤◌, IfOk, Some, Ok};
+ghost use Rattle.plate_file.specs.Decimal.{Unsigned, Signed};
+ghost use Rattle.plate_file.specs.Lines.{RectangleIn, ChannelIn, RuleIn, SlotIn, FlagIn, number_next, signed_next, type_next, scheme_next, slot_next, flag_next, rectangle_in, channel_in, rule_in};
+ghost use Rattle.plate_file.specs.Words.{TypeWord, SchemeWord};
+ghost use Rattle.plate_file.specs.Reading.{field_in, after_field, unread, ahead};
 
 use crate::keywords::{is, sample_type_of, scheme_of};
 use crate::numbers::{signed, unsigned};
@@ -12,22 +12,30 @@ use crate::reader::Reader;
 use channel_rules::{ChannelDescription, CompressorScheme, IntegerBounds, Part, Rule, SampleType};
 
 pub(crate) fn number(reader: &mut Reader<'_>) -> Result<usize, Problem>
-    ensures value { result ≡ number_next (unread reader.old) }
+    ensures value { IfOk result (λ n. Unsigned (field_in (unread reader.old)) (Ok n)) }
     ensures after { unread reader.new ≡ after_field (unread reader.old) }
+    ensures len { ahead reader.new ≤ ahead reader.old }
+    ensures exact { result ≡ number_next (unread reader.old) }
 {
-    unsigned(reader.required_field()?)
+    let field = reader.required_field()?;
+    Ok(unsigned(field)?)
 }
 
 fn signed_number(reader: &mut Reader<'_>) -> Result<i32, Problem>
-    ensures value { result ≡ present signed_in (field_in (unread reader.old)) }
+    ensures value { IfOk result (λ n. Signed (field_in (unread reader.old)) (Ok n)) }
     ensures after { unread reader.new ≡ after_field (unread reader.old) }
+    ensures len { ahead reader.new ≤ ahead reader.old }
+    ensures exact { result ≡ signed_next (unread reader.old) }
 {
-    signed(reader.required_field()?)
+    let field = reader.required_field()?;
+    Ok(signed(field)?)
 }
 
 fn slot(reader: &mut Reader<'_>) -> Result<Option<usize>, Problem>
-    ensures value { result ≡ slot_next (unread reader.old) }
+    ensures value { IfOk result (SlotIn (field_in (unread reader.old))) }
     ensures after { unread reader.new ≡ after_field (unread reader.old) }
+    ensures len { ahead reader.new ≤ ahead reader.old }
+    ensures exact { result ≡ slot_next (unread reader.old) }
 {
     let field = reader.required_field()?;
     if is(field, b"-") {
@@ -37,24 +45,30 @@ fn slot(reader: &mut Reader<'_>) -> Result<Option<usize>, Problem>
 }
 
 fn sample_type(reader: &mut Reader<'_>) -> Result<SampleType, Problem>
-    ensures value { result ≡ type_next (unread reader.old) }
+    ensures value { IfOk result (λ found. TypeWord (field_in (unread reader.old)) (Some found)) }
     ensures after { unread reader.new ≡ after_field (unread reader.old) }
+    ensures len { ahead reader.new ≤ ahead reader.old }
+    ensures exact { result ≡ type_next (unread reader.old) }
 {
     let field = reader.required_field()?;
     sample_type_of(field).ok_or(Problem::UnknownSampleType)
 }
 
 fn scheme(reader: &mut Reader<'_>) -> Result<CompressorScheme, Problem>
-    ensures value { result ≡ scheme_next (unread reader.old) }
+    ensures value { IfOk result (λ found. SchemeWord (field_in (unread reader.old)) (Some found)) }
     ensures after { unread reader.new ≡ after_field (unread reader.old) }
+    ensures len { ahead reader.new ≤ ahead reader.old }
+    ensures exact { result ≡ scheme_next (unread reader.old) }
 {
     let field = reader.required_field()?;
     scheme_of(field).ok_or(Problem::UnknownScheme)
 }
 
 // Whether the line ends with `word`; nothing else may stand there.
-fn flag(reader: &mut Reader<'_>, word: &[u8]) -> Result<bool, Problem>
-    ensures { result ≡ flag_next word.now (unread reader.old) }
+fn ends_with(reader: &mut Reader<'_>, word: &[u8]) -> Result<bool, Problem>
+    ensures value { IfOk result (FlagIn (field_in (unread reader.old)) word.now) }
+    ensures len { ahead reader.new ≤ ahead reader.old }
+    ensures exact { result ≡ flag_next word.now (unread reader.old) }
 {
     let field = reader.field();
     if field.is_empty() {
@@ -68,7 +82,9 @@ fn flag(reader: &mut Reader<'_>, word: &[u8]) -> Result<bool, Problem>
 }
 
 pub(crate) fn rectangle(reader: &mut Reader<'_>) -> Result<IntegerBounds, Problem>
-    ensures { result ≡ rectangle_in (unread reader.old) }
+    ensures value { IfOk result (RectangleIn (unread reader.old)) }
+    ensures len { ahead reader.new ≤ ahead reader.old }
+    ensures exact { result ≡ rectangle_in (unread reader.old) }
 {
     let left = signed_number(reader)?;
     let top = signed_number(reader)?;
@@ -84,14 +100,19 @@ pub(crate) fn rectangle(reader: &mut Reader<'_>) -> Result<IntegerBounds, Proble
 }
 
 // The fields of a channel behind its name.
-pub(crate) fn channel(reader: &mut Reader<'_>, name: Part) -> Result<ChannelDescription, Problem>
+pub(crate) fn channel_named(
+    reader: &mut Reader<'_>,
+    name: Part,
+) -> Result<ChannelDescription, Problem>
     ensures name { IfOk result (λ channel. channel.name ≡ name) }
-    ensures value { result ≡ channel_in name (unread reader.old) }
+    ensures value { IfOk result (ChannelIn (unread reader.old)) }
+    ensures len { ahead reader.new ≤ ahead reader.old }
+    ensures exact { result ≡ channel_in name (unread reader.old) }
 {
     let sample_type = sample_type(reader)?;
     let x_sampling = number(reader)?;
     let y_sampling = number(reader)?;
-    let quantize_linearly = flag(reader, b"linear")?;
+    let quantize_linearly = ends_with(reader, b"linear")?;
     Ok(ChannelDescription {
         name,
         sample_type,
@@ -102,14 +123,16 @@ pub(crate) fn channel(reader: &mut Reader<'_>, name: Part) -> Result<ChannelDesc
 }
 
 // The fields of a rule behind its suffix.
-pub(crate) fn rule(reader: &mut Reader<'_>, suffix: Part) -> Result<Rule, Problem>
+pub(crate) fn rule_for(reader: &mut Reader<'_>, suffix: Part) -> Result<Rule, Problem>
     ensures suffix { IfOk result (λ rule. rule.suffix ≡ suffix) }
-    ensures value { result ≡ rule_in suffix (unread reader.old) }
+    ensures value { IfOk result (RuleIn (unread reader.old)) }
+    ensures len { ahead reader.new ≤ ahead reader.old }
+    ensures exact { result ≡ rule_in suffix (unread reader.old) }
 {
     let scheme = scheme(reader)?;
     let sample_type = sample_type(reader)?;
     let csc_index = slot(reader)?;
-    let case_insensitive = flag(reader, b"ignore-case")?;
+    let case_insensitive = ends_with(reader, b"ignore-case")?;
     Ok(Rule {
         suffix,
         scheme,

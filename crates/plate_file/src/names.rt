@@ -1,7 +1,8 @@
 // Names and suffixes: bytes in quotes.
-ghost use Rattle.std.specs.Prelude.{◌≡◌, ◌+◌, ◌<◌, ◌≤◌, ◌++◌, length, drop, IfSome, Some, Ok, Err, MatchResult, OnOk};
+ghost use Rattle.std.specs.Prelude.{◌≡◌, ◌+◌, ◌<◌, ◌≤◌, ◌++◌, length, drop, IfSome, Some, Ok, Err, MatchResult, OnOk, IfOk, vec_len};
 ghost use Rattle.std.specs.Option.{option_map};
-ghost use Rattle.plate_file.specs.Fields.{unread};
+ghost use Rattle.plate_file.specs.Reading.{unread, ahead};
+ghost use Rattle.plate_file.specs.Inside.{Inside};
 ghost use Rattle.plate_file.specs.Quoted.{is_plain, escape_in, letter_in, letter_size, letters_in, written_in, name_in, after_name, NameAdded};
 ghost use Rattle.plate_file.specs.Steps.{found, Fault};
 
@@ -66,6 +67,7 @@ fn add_letters(text: &mut Vec<u8>, written: &[u8]) -> Result<(), Problem>
 
 // What stands between the quotes of the next field.
 fn between_quotes<'a>(reader: &mut Reader<'a>) -> Result<&'a [u8], Problem>
+    ensures len { ahead reader.new ≤ ahead reader.old }
     ensures value { MatchResult result (λ written. written_in (unread reader.old) ≡ Ok written.now) (λ problem. written_in (unread reader.old) ≡ Err problem) }
     ensures after { OnOk result (unread reader.new ≡ after_name (unread reader.old)) }
 {
@@ -89,9 +91,11 @@ fn between_quotes<'a>(reader: &mut Reader<'a>) -> Result<&'a [u8], Problem>
 
 // Adds the name that stands next to `text`.
 pub(crate) fn quoted(reader: &mut Reader<'_>, text: &mut Vec<u8>) -> Result<Part, Problem>
-    ensures kept { length text.old.items ≤ length text.new.items }
+    ensures len { ahead reader.new ≤ ahead reader.old }
+    ensures kept { vec_len text.old ≤ vec_len text.new }
+    ensures inside { IfOk result (Inside (vec_len text.new)) }
     ensures after { OnOk result (unread reader.new ≡ after_name (unread reader.old)) }
-    ensures value { MatchResult result (NameAdded (unread reader.old) text.old.items text.new.items) (Fault (name_in (unread reader.old))) }
+    ensures exact { MatchResult result (NameAdded (unread reader.old) text.old.items text.new.items) (Fault (name_in (unread reader.old))) }
 {
     let written = between_quotes(reader)?;
     let start = text.len();

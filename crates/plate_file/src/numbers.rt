@@ -1,13 +1,19 @@
 // Decimal numbers.
-ghost use Rattle.std.specs.Prelude.{◌≡◌, ◌+◌, ◌*◌, ◌^◌, ◌<◌};
+ghost use Rattle.std.specs.Prelude.{◌≡◌, ◌+◌, ◌*◌, ◌^◌, ◌<◌, Decides};
 ghost use Rattle.std.specs.Option.{SomeIff};
-ghost use Rattle.plate_file.specs.Decimal.{is_numeral, unsigned_in, positive_in, negative_in, signed_in};
+ghost use Rattle.plate_file.specs.Decimal.{Numeral, Unsigned, Positive, Negative, Signed, is_numeral, unsigned_in, positive_in, negative_in, signed_in};
 
-use crate::problem::Problem;
 use crate::reader::Run;
 
+#[derive(Clone, Copy, PartialEq, Eq, Debug)]
+pub enum NumberFault {
+    NotANumber,
+    OutOfRange,
+}
+
 fn is_numeral(field: &[u8]) -> bool
-    ensures { result ≡ is_numeral field.now }
+    ensures digits { Decides result (Numeral field.now) }
+    ensures exact { result ≡ is_numeral field.now }
 {
     !field.is_empty() && Run::Digits.count(field) == field.len()
 }
@@ -19,44 +25,48 @@ fn appended(value: usize, digit: u8) -> Option<usize>
     value.checked_mul(10)?.checked_add(usize::from(digit))
 }
 
-pub(crate) fn unsigned(field: &[u8]) -> Result<usize, Problem>
-    ensures { result ≡ unsigned_in field.now }
+pub(crate) fn unsigned(field: &[u8]) -> Result<usize, NumberFault>
+    ensures reads { Unsigned field.now result }
+    ensures exact { result ≡ unsigned_in field.now }
 {
     if !is_numeral(field) {
-        return Err(Problem::NotANumber);
+        return Err(NumberFault::NotANumber);
     }
     let mut value = 0;
     for byte in field {
         let Some(longer) = appended(value, *byte - b'0') else {
-            return Err(Problem::OutOfRange);
+            return Err(NumberFault::OutOfRange);
         };
         value = longer;
     }
     Ok(value)
 }
 
-fn positive(digits: &[u8]) -> Result<i32, Problem>
-    ensures { result ≡ positive_in digits.now }
+fn positive(digits: &[u8]) -> Result<i32, NumberFault>
+    ensures reads { Positive digits.now result }
+    ensures exact { result ≡ positive_in digits.now }
 {
     let magnitude = unsigned(digits)?;
     if magnitude > 0x7fff_ffff {
-        return Err(Problem::OutOfRange);
+        return Err(NumberFault::OutOfRange);
     }
     Ok(magnitude as i32)
 }
 
-fn negative(digits: &[u8]) -> Result<i32, Problem>
-    ensures { result ≡ negative_in digits.now }
+fn negative(digits: &[u8]) -> Result<i32, NumberFault>
+    ensures reads { Negative digits.now result }
+    ensures exact { result ≡ negative_in digits.now }
 {
     let magnitude = unsigned(digits)?;
     if magnitude > 0x8000_0000 {
-        return Err(Problem::OutOfRange);
+        return Err(NumberFault::OutOfRange);
     }
     Ok(-(magnitude as i64) as i32)
 }
 
-pub(crate) fn signed(field: &[u8]) -> Result<i32, Problem>
-    ensures { result ≡ signed_in field.now }
+pub(crate) fn signed(field: &[u8]) -> Result<i32, NumberFault>
+    ensures reads { Signed field.now result }
+    ensures exact { result ≡ signed_in field.now }
 {
     match field {
         [b'-', digits @ ..] => negative(digits),

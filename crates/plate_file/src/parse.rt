@@ -1,7 +1,8 @@
 // Reads a whole file.
-ghost use Rattle.std.specs.Prelude.{◌≡◌, ◌<◌, ◌≤◌, ◌∷◌, length, IfSome, IfErr};
+ghost use Rattle.std.specs.Prelude.{◌≡◌, ◌+◌, ◌<◌, ◌≤◌, ◌∷◌, length, IfSome, IfErr};
 ghost use Rattle.plate_file.specs.Fields.{lines_of, lines_left};
 ghost use Rattle.plate_file.specs.File.{Answered};
+ghost use Rattle.plate_file.specs.Lines.{line_ends};
 ghost use Rattle.plate_file.specs.Writes.{Faithful};
 
 use crate::draft::Draft;
@@ -25,9 +26,9 @@ fn cut_line(bytes: &[u8]) -> (&[u8], Option<&[u8]>)
 
 // What the file says, or its first fault.
 pub fn parse_plate(heap: Global, bytes: &[u8]) -> Result<Plate, Malformed>
+    ensures line { IfErr result (λ fault. (1 ≤ fault.line) × (fault.line ≤ line_ends bytes.now + 1)) }
     ensures answer { Answered bytes.now result }
     ensures faithful { Faithful bytes.now result }
-    ensures line { IfErr result (λ fault. (1 ≤ fault.line) × (fault.line ≤ length (lines_of bytes.now))) }
 {
     let mut draft = Draft::Opening;
     let mut line = 0;

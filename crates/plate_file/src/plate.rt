@@ -1,5 +1,6 @@
 // What a plate file says.
-ghost use Rattle.channel_rules.specs.Triplets.{Named, Suffixed};
+ghost use Rattle.std.specs.Prelude.{vec_len};
+ghost use Rattle.plate_file.specs.Inside.{Named, Suffixed};
 
 use channel_rules::{ChannelDescription, IntegerBounds, Rule};
 
@@ -12,8 +13,8 @@ pub struct Plate {
     pub rectangle: IntegerBounds,
     pub dc: Vec<u16>,
     pub ac: Vec<u16>,
-    ghost named: { Named text.items channels.items },
-    ghost suffixed: { Suffixed text.items rules.items },
+    ghost named: { Named (vec_len text) channels.items },
+    ghost suffixed: { Suffixed (vec_len text) rules.items },
 }
 
 // What stands before the streams.
@@ -23,6 +24,6 @@ pub(crate) struct Header {
     pub(crate) channels: Vec<ChannelDescription>,
     pub(crate) rules: Vec<Rule>,
     pub(crate) rectangle: Option<IntegerBounds>,
-    ghost named: { Named text.items channels.items },
-    ghost suffixed: { Suffixed text.items rules.items },
+    ghost named: { Named (vec_len text) channels.items },
+    ghost suffixed: { Suffixed (vec_len text) rules.items },
 }

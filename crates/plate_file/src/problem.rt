@@ -1,8 +1,10 @@
 // What can be wrong with a plate file.
 ghost use Rattle.std.specs.Prelude.{◌≡◌};
 ghost use Rattle.plate_file.specs.declared.problem.Problem.TheVariants.{OutOfMemory};
+ghost use Rattle.plate_file.specs.Steps.{problem_of};
 
-use std::alloc::AllocFailed;
+use crate::numbers::NumberFault;
+use std::alloc::{AllocError, AllocFailed};
 use std::fmt;
 
 #[derive(Clone, Copy)]
@@ -57,11 +59,30 @@ impl fmt::Display for Problem {
     }
 }
 
+impl From<AllocError> for Problem {
+    ghost from_gives = { λ _ r. r ≡ OutOfMemory };
+
+    fn from(_e: AllocError) -> Problem {
+        Problem::OutOfMemory
+    }
+}
+
 impl<T: Drop> From<AllocFailed<T>> for Problem {
     ghost from_gives = { λ _ r. r ≡ OutOfMemory };
 
     fn from(_e: AllocFailed<T>) -> Problem {
         Problem::OutOfMemory
+    }
+}
+
+impl From<NumberFault> for Problem {
+    ghost from_gives = { λ fault r. r ≡ problem_of fault };
+
+    fn from(e: NumberFault) -> Problem {
+        match e {
+            NumberFault::NotANumber => Problem::NotANumber,
+            NumberFault::OutOfRange => Problem::OutOfRange,
+        }
     }
 }
 

@@ -1,7 +1,7 @@
 // Goes through the bytes of a line, field by field.
-ghost use Rattle.std.specs.Prelude.{◌≡◌, ◌+◌, ◌<◌, ◌≤◌, length, MatchOption, MatchResult, OnSome};
+ghost use Rattle.std.specs.Prelude.{◌≡◌, ◌+◌, ◌<◌, ◌≤◌, length, IfOk, MatchOption, MatchResult, OnSome};
 ghost use Rattle.std.specs.List.{prefix_len};
-ghost use Rattle.plate_file.specs.Fields.{in_run, front, past, field_in, after_field, unread, ahead};
+ghost use Rattle.plate_file.specs.Reading.{in_run, front, past, field_in, after_field, unread, ahead};
 ghost use Rattle.plate_file.specs.Steps.{ended};
 
 use crate::problem::Problem;
@@ -22,7 +22,7 @@ impl Run {
     {
         match self {
             Run::Blanks => byte == b' ' || byte == b'\t',
-            Run::Field => byte != b' ' && byte != b'\t',
+            Run::Field => byte != b' ' && byte != b'\t' && byte != b'\n',
             Run::Letters => byte != b'"',
             Run::Digits => byte >= b'0' && byte <= b'9',
             Run::Line => byte != b'\n',
@@ -74,7 +74,8 @@ impl<'a> Reader<'a> {
     pub(crate) fn next_field(&mut self) -> Option<&'a [u8]>
         ensures value { MatchOption result (length (field_in (unread self.old)) ≡ 0) (λ field. (field.now ≡ field_in (unread self.old)) × (0 < length (field_in (unread self.old)))) }
         ensures after { unread self.new ≡ after_field (unread self.old) }
-        ensures len { OnSome result (ahead self.new < ahead self.old) }
+        ensures len { ahead self.new ≤ ahead self.old }
+        ensures goes { OnSome result (ahead self.new < ahead self.old) }
     {
         let field = self.field();
         if field.is_empty() { None } else { Some(field) }
@@ -82,15 +83,18 @@ impl<'a> Reader<'a> {
 
     // The next field, which has to be there.
     pub(crate) fn required_field(&mut self) -> Result<&'a [u8], Problem>
-        ensures value { MatchResult result (λ field. (field.now ≡ field_in (unread self.old)) × (0 < length (field_in (unread self.old)))) (λ problem. (length (field_in (unread self.old)) ≡ 0) × (problem ≡ Problem.MissingField)) }
+        ensures value { IfOk result (λ field. field.now ≡ field_in (unread self.old)) }
+        ensures exact { MatchResult result (λ field. (field.now ≡ field_in (unread self.old)) × (0 < length (field_in (unread self.old)))) (λ problem. (length (field_in (unread self.old)) ≡ 0) × (problem ≡ Problem.MissingField)) }
         ensures after { unread self.new ≡ after_field (unread self.old) }
+        ensures len { ahead self.new ≤ ahead self.old }
     {
         self.next_field().ok_or(Problem::MissingField)
     }
 
     // Refuses with `problem` what stands between here and the line's end.
     pub(crate) fn end_line(&mut self, problem: Problem) -> Result<(), Problem>
-        ensures { result ≡ ended problem (field_in (unread self.old)) }
+        ensures len { ahead self.new ≤ ahead self.old }
+        ensures exact { result ≡ ended problem (field_in (unread self.old)) }
     {
         match self.field() {
             [] => Ok(()),

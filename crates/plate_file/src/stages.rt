@@ -1,6 +1,6 @@
 // What one line more makes of a draft.
 ghost use Rattle.std.specs.Prelude.{◌≡◌, Ok, Err, MatchResult};
-ghost use Rattle.plate_file.specs.Fields.{unread};
+ghost use Rattle.plate_file.specs.Reading.{unread};
 ghost use Rattle.plate_file.specs.File.{contents, progress, headed, in_dc, in_ac, first_in, is_idle, begun, line_after, Leads, finished};
 ghost use Rattle.plate_file.specs.Headings.{heading};
 

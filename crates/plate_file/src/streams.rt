@@ -1,6 +1,8 @@
 // A stream: a count, and then as many words.
-ghost use Rattle.std.specs.Prelude.{◌≡◌, Ok, MatchResult};
-ghost use Rattle.plate_file.specs.Fields.{fields_of, unread};
+ghost use Rattle.std.specs.Prelude.{◌≡◌, ◌≤◌, IfOk, Ok, MatchResult};
+ghost use Rattle.plate_file.specs.Reading.{field_in, unread, ahead};
+ghost use Rattle.plate_file.specs.Fields.{fields_of};
+ghost use Rattle.plate_file.specs.Decimal.{Unsigned};
 ghost use Rattle.plate_file.specs.Steps.{Fault};
 ghost use Rattle.plate_file.specs.Streams.{count_in, word_in, longer};
 
@@ -12,7 +14,9 @@ use crate::reader::Reader;
 
 // Behind the word `dc` or `ac`.
 pub(crate) fn count(reader: &mut Reader<'_>) -> Result<usize, Problem>
-    ensures { result ≡ count_in (unread reader.old) }
+    ensures count { IfOk result (λ n. Unsigned (field_in (unread reader.old)) (Ok n)) }
+    ensures len { ahead reader.new ≤ ahead reader.old }
+    ensures exact { result ≡ count_in (unread reader.old) }
 {
     let count = number(reader)?;
     reader.end_line(Problem::ExtraField)?;
@@ -35,7 +39,7 @@ pub(crate) fn add_words(
     words: &mut Vec<u16>,
     to_come: usize,
 ) -> Result<usize, Problem>
-    ensures { MatchResult result (λ left. longer words.entry.now.items to_come (fields_of (unread reader.old)) ≡ Ok (record { words = words.exit.now.items; left = left })) (Fault (longer words.entry.now.items to_come (fields_of (unread reader.old)))) }
+    ensures { MatchResult result (λ left. longer words.old.items to_come (fields_of (unread reader.old)) ≡ Ok (record { words = words.new.items; left = left })) (Fault (longer words.old.items to_come (fields_of (unread reader.old)))) }
 {
     let mut left = to_come;
     while let Some(field) = reader.next_field() {

@@ -1,4 +1,4 @@
-use Rattle.std.proofs.Common.{◌≡◌, ◌+◌, ◌*◌, length, Some, ap, ◌∙◌, arith, ltb-false, ltb-true}
+use Rattle.std.proofs.Common.{◌+◌, ◌*◌, Some, ◌∙◌, arith, ltb-false, ltb-true}
 use Rattle.plate_file.proofs.HexPairs.{no_high, no_low, both}
 use Rattle.plate_file.proofs.hex.hex_word.Goals as goal
 

@@ -4,4 +4,8 @@ use Rattle.std.proofs.lemmas.Bool.Decides.{Decides-eqb, same_from_decides}
 
 pub returns : goal.returns
 returns c =
-    same_from_decides c.eq.result _ (slice_eq-Decides Decides-eqb _ _ _ c.eq.ensures) (bytes_eq-Decides c.args.field.now c.args.word.now)
+    let same = slice_eq-Decides Decides-eqb c.args.field.now c.args.word.now c.eq.result c.eq.ensures in
+    record {
+      same = same;
+      exact = same_from_decides c.eq.result _ same (bytes_eq-Decides c.args.field.now c.args.word.now);
+    }

@@ -1,4 +1,4 @@
-use Rattle.std.proofs.Common.{Ok, sym, ap, ◌∙◌, arith, ltb-false, ltb-true}
+use Rattle.std.proofs.Common.{Ok, sym, ap, ◌∙◌, arith, rules, ltb-false, ltb-true}
 use Rattle.std.proofs.lemmas.List.{take_rest}
 use Rattle.plate_file.proofs.Quotes.{to_close, behind-name, never-closed, runs_on, stands}
 use Rattle.plate_file.proofs.names.between_quotes.Goals as goal
@@ -8,6 +8,7 @@ returns-in_default-left c =
     let q = c.pass.new.self.left.now in
     let e = c.pass-written.new.self.left.now in
     record {
+      len = search rules;
       value = to_close c.args.reader.now.left.now q _ e c.pass.ensures.after (take_rest q 1) c.pass-written.ensures.after (omega (arith, ltb-false)) (omega arith) ∙ never-closed _ e (omega (arith, ltb-true));
       after = tt;
     }
@@ -17,6 +18,7 @@ returns-then-count-gt0 c =
     let q = c.pass.new.self.left.now in
     let e = c.pass-written.new.self.left.now in
     record {
+      len = search rules;
       value =
           to_close c.args.reader.now.left.now q _ e c.pass.ensures.after (take_rest q 1) c.pass-written.ensures.after (omega (arith, ltb-false)) (omega arith)
           ∙ runs_on _ e _ (omega (arith, ltb-false)) (take_rest e 1) (omega (arith, c.count.ensures));
@@ -28,6 +30,7 @@ returns c =
     let q = c.pass.new.self.left.now in
     let e = c.pass-written.new.self.left.now in
     record {
+      len = search rules;
       value =
           to_close c.args.reader.now.left.now q _ e c.pass.ensures.after (take_rest q 1) c.pass-written.ensures.after (omega (arith, ltb-false)) (omega arith)
           ∙ stands _ e _ (omega (arith, ltb-false)) (take_rest e 1) (omega (arith, c.count.ensures)) ∙ ap Ok (sym c.pass-written.ensures.front);

@@ -1,4 +1,4 @@
-use Rattle.std.proofs.Common.{length, arith, length-drop, length-take, rules}
+use Rattle.std.proofs.Common.{length, arith, rules}
 use Rattle.std.proofs.lemmas.Slice.{between_to_end}
 use Rattle.plate_file.proofs.names.escape.Goals as goal
 

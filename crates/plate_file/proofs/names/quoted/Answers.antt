@@ -8,9 +8,11 @@ overflow_sub-result c = search rules
 pub returns : goal.returns
 returns c =
     record {
-      kept = c.add_letters.ensures.kept;
+      len = search rules;
+      kept = search rules;
+      inside = omega (arith, c.add_letters.ensures.kept, c.args.text.now.ok.0, c.add_letters.new.text.ok.0);
       after = c.in_ok-written.ensures.after;
-      value =
+      exact =
           name-added c.args.reader.now.left.now (vec_items c.args.text.now) (vec_items c.add_letters.new.text) c.in_ok-written.written.now _ _
           c.in_ok-written.ensures.value c.in_ok-add_letters.ensures.value
           (omega (arith, c.args.text.now.ok.0)) (omega (arith, c.args.text.now.ok.0, c.add_letters.new.text.ok.0));

@@ -1,4 +1,4 @@
-use Rattle.std.proofs.Common.{[], ◌∷◌, drop, sym, ap, ◌∙◌, arith, rules, ltb-false, ltb-true}
+use Rattle.std.proofs.Common.{[], ◌∷◌, sym, ap, ◌∙◌, arith, rules, ltb-false, ltb-true}
 use Rattle.std.proofs.lemmas.List.{take_rest}
 use Rattle.plate_file.specs.Fields.{lines_of}
 use Rattle.plate_file.proofs.Cutting.{last_line, next-lines}

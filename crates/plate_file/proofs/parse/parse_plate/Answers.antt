@@ -1,9 +1,9 @@
-use Rattle.std.proofs.Common.{◌+◌, length, Ok, Err, Result, sym, ap, ◌∙◌, inr, arith, rules}
+use Rattle.std.proofs.Common.{◌+◌, ◌≤◌, length, Ok, Err, Result, sym, ap, ◌∙◌, inr, arith, rules}
 use Rattle.plate_file.specs.declared.plate.Plate.{Plate}
 use Rattle.plate_file.specs.declared.problem.Malformed.{Malformed}
-use Rattle.plate_file.specs.Fields.{lines_left}
+use Rattle.plate_file.specs.Fields.{lines_of, lines_left}
 use Rattle.plate_file.specs.File.{progress, on_line, lines_after, Answered}
-use Rattle.plate_file.proofs.Cutting.{some-line}
+use Rattle.plate_file.proofs.Cutting.{some-line, lines_counted}
 use Rattle.plate_file.proofs.Written.{faithful}
 use Rattle.plate_file.proofs.parse.parse_plate.Goals as goal
 
@@ -11,7 +11,8 @@ pub returns-in-Err : goal.returns-in-Err
 returns-in-Err c =
     let r : Result Plate Malformed = Err (record { line = c.loop-left.line + 1; problem = c.in-Err.problem }) in
     let answer : Answered c.args.bytes.now r = search rules in
-    record { answer = answer; faithful = faithful c.args.bytes.now r answer; line = search rules }
+    let within : (1 ≤ c.loop-left.line + 1) × (c.loop-left.line + 1 ≤ length (lines_of c.args.bytes.now)) = search rules in
+    record { answer = answer; faithful = faithful c.args.bytes.now r answer; line = (within.0, omega (arith, within.1, lines_counted c.args.bytes.now)) }
 
 pub returns-in-Ok-finish : goal.returns-in-Ok-finish
 returns-in-Ok-finish c =
@@ -32,5 +33,5 @@ returns-in-Err-finish c =
     record {
       answer = answer;
       faithful = faithful c.args.bytes.now r answer;
-      line = (omega (arith, c.loop-left.invariant.1), omega (arith, c.loop-left.invariant.1));
+      line = (omega (arith, c.loop-left.invariant.1), omega (arith, c.loop-left.invariant.1, lines_counted c.args.bytes.now));
     }

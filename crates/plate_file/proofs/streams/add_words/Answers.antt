@@ -1,6 +1,7 @@
-use Rattle.std.proofs.Common.{◌≡◌, ◌-◌, vec_items, sym, ap, ◌∙◌, inl, inr, arith}
+use Rattle.std.proofs.Common.{◌-◌, sym, ap, ◌∙◌, inr, arith}
 use Rattle.std.proofs.lemmas.Result.{err_from_is_err_and}
-use Rattle.plate_file.specs.Fields.{fields_of, unread}
+use Rattle.plate_file.specs.Reading.{unread}
+use Rattle.plate_file.specs.Fields.{fields_of}
 use Rattle.plate_file.specs.Streams.{word_in, longer}
 use Rattle.plate_file.proofs.Cutting.{no_fields, first_field}
 use Rattle.plate_file.proofs.StreamWords.{longer-none, longer-full, longer-bad, longer-more}

@@ -1,5 +1,6 @@
 use Rattle.std.proofs.Common.{◌≡◌, vec_items}
-use Rattle.plate_file.specs.Fields.{fields_of, unread, ahead}
+use Rattle.plate_file.specs.Reading.{unread, ahead}
+use Rattle.plate_file.specs.Fields.{fields_of}
 use Rattle.plate_file.specs.Streams.{longer}
 use Rattle.plate_file.proofs.streams.add_words.Given as goal
 

@@ -1,8 +1,7 @@
-use Rattle.std.proofs.Common.{is_ok, vec_items, arith}
-use Rattle.channel_rules.specs.Names.{Inside}
+use Rattle.std.proofs.Common.{is_ok, vec_len, arith}
+use Rattle.plate_file.specs.Inside.{Inside}
 use Rattle.channel_rules.specs.Triplets.{no_channel}
 use Rattle.plate_file.proofs.Pushed.{pushed}
-use Rattle.plate_file.proofs.Letters.{name-inside}
 use Rattle.plate_file.proofs.plate.Header.add_channel.Goals as goal
 
 -- the text has only grown, and the new name lies inside it
@@ -10,9 +9,8 @@ pub invariant_of-self-2 : goal.invariant_of-self-2
 invariant_of-self-2 c =
     let old = c.args.self.now in
     let grew = c.quoted.ensures.kept in
-    let text = vec_items c.quoted.new.text in
-    let fits = name-inside _ _ _ c.in_ok-name.name c.in_ok-name.ensures.value in record {
-      named = pushed (λ channel. Inside text channel.name) no_channel (is_ok c.push.result) _ _ _ c.push.ensures.items (λ k h. omega (arith, old.named k h))
-          (rw c.in_ok-channel.ensures.name (omega arith));
+    let fits = c.in_ok-name.ensures.inside in record {
+      named = pushed (λ channel. Inside (vec_len c.quoted.new.text) channel.name) no_channel (is_ok c.push.result) _ _ _ c.push.ensures.items (λ k h. omega (arith, old.named k h))
+          (rw c.in_ok-channel_named.ensures.name fits);
       suffixed = λ k h. omega (arith, old.suffixed k h);
     }

@@ -1,6 +1,6 @@
 use Rattle.std.proofs.Common.{sym, ◌∙◌, arith}
 use Rattle.std.proofs.lemmas.List.Sums.{prefix_len-drop_yes, prefix_len-drop_no, prefix_len-drop_all}
-use Rattle.plate_file.specs.Fields.{in_run}
+use Rattle.plate_file.specs.Reading.{in_run}
 use Rattle.plate_file.proofs.reader.Run.count.Goals as goal
 
 pub returns-then-not-takes : goal.returns-then-not-takes

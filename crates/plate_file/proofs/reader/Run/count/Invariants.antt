@@ -1,6 +1,6 @@
 use Rattle.std.proofs.Common.{◌≡◌, ◌+◌, drop}
 use Rattle.std.specs.List.{prefix_len}
-use Rattle.plate_file.specs.Fields.{in_run}
+use Rattle.plate_file.specs.Reading.{in_run}
 use Rattle.plate_file.proofs.reader.Run.count.Given as goal
 
 -- every byte that was passed is of the sort

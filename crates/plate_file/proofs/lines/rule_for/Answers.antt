@@ -1,9 +1,9 @@
-use Rattle.std.proofs.Common.{codes, ap, ◌∙◌}
+use Rattle.std.proofs.Common.{codes, ap, ◌∙◌, rules}
 use Rattle.std.proofs.lemmas.Result.{err_from_is_err_and}
-use Rattle.plate_file.specs.Fields.{after_field}
+use Rattle.plate_file.specs.Reading.{after_field}
 use Rattle.plate_file.specs.Lines.{type_next, slot_next, flag_next}
 use Rattle.plate_file.proofs.Sequence.{goes, stops}
-use Rattle.plate_file.proofs.lines.rule.Goals as goal
+use Rattle.plate_file.proofs.lines.rule_for.Goals as goal
 
 pub returns-in_err-case_insensitive : goal.returns-in_err-case_insensitive
 returns-in_err-case_insensitive c =
@@ -14,8 +14,10 @@ returns-in_err-case_insensitive c =
     rw (p.1, p.2)
     (record {
       suffix = tt;
-      value =
-          goes _ c.in_ok-scheme.ensures.value
-          (goes _ (c.in_ok-sample_type.ensures.value ∙ ap type_next type_on)
-          (goes _ (c.in_ok-csc_index.ensures.value ∙ ap slot_next slot_on) (stops _ (c.in_err-case_insensitive.ensures ∙ ap (flag_next (codes "ignore-case")) flag_on))));
+      value = tt;
+      len = search rules;
+      exact =
+          goes _ c.in_ok-scheme.ensures.exact
+          (goes _ (c.in_ok-sample_type.ensures.exact ∙ ap type_next type_on)
+          (goes _ (c.in_ok-csc_index.ensures.exact ∙ ap slot_next slot_on) (stops _ (c.in_err-case_insensitive.ensures.exact ∙ ap (flag_next (codes "ignore-case")) flag_on))));
     })
