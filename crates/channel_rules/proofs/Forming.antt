@@ -1,5 +1,5 @@
 -- The triplets of the known prefixes are those of the channels.
-use Rattle.std.proofs.Common.{◌≡◌, ℕ, ◌+◌, ◌<◌, ◌≤◌, Bool, true, cond, ◌&&◌, List, [], ◌∷◌, ◌++◌, map, length, get_or, take, IfSome, Some, None, Option, sym, refl, ap, ◌∙◌, subst, arith}
+use Rattle.std.proofs.Common.{◌≡◌, ℕ, ◌+◌, ◌<◌, Bool, true, cond, ◌&&◌, List, [], ◌∷◌, ◌++◌, map, length, get_or, take, IfSome, Some, None, Option, sym, refl, ap, ◌∙◌, subst, arith}
 use Rattle.std.specs.Option.{option_to_list}
 use Rattle.std.specs.List.{flat_map}
 use Rattle.std.proofs.lemmas.List.{take_all, take_more, flat_map_more, get_or-map, length-map}
@@ -7,7 +7,6 @@ use Rattle.channel_rules.specs.declared.records.ChannelDescription.{ChannelDescr
 use Rattle.channel_rules.specs.declared.records.ChannelInfo.{ChannelInfo}
 use Rattle.channel_rules.specs.declared.records.IntegerBounds.{IntegerBounds}
 use Rattle.channel_rules.specs.declared.records.Rule.{Rule}
-use Rattle.channel_rules.specs.declared.records.Triplet.{Triplet}
 use Rattle.channel_rules.specs.declared.prefix_map.Slots.{Slots}
 use Rattle.channel_rules.specs.declared.prefix_map.KnownPrefix.{KnownPrefix}
 use Rattle.channel_rules.specs.Picks.{LastAt}

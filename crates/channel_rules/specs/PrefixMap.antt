@@ -1,5 +1,5 @@
 -- The prefixes met midway through the channels, with the holders of their slots. Only inner contracts cite this.
-use Rattle.std.specs.Prelude.{◌≡◌, ℕ, ◌<◌, Bool, true, false, cond, ◌&&◌, List, map, length, get_or, take, IfSome, Some, None, Option, ◌==◌, slice_index_or}
+use Rattle.std.specs.Prelude.{◌≡◌, ℕ, ◌<◌, Bool, true, false, cond, ◌&&◌, List, map, length, slice_index_or, take, IfSome, Some, None, Option, ◌==◌}
 use Rattle.std.specs.Option.{option_to_list}
 use Rattle.std.specs.List.{flat_map}
 use Rattle.channel_rules.specs.declared.records.ChannelDescription.{ChannelDescription}
@@ -59,7 +59,7 @@ map_in text channels rules = map (λ p. (p, slots_of text channels rules p)) (pr
 
 -- the map once the first n channels are met
 pub record Met (text : List ℕ) (channels : List ChannelDescription) (rules : List Rule) (n : ℕ) (ks : List KnownPrefix) : Type 0 where
-  pub firsts : (k : ℕ) → k < length ks → (get_or ks k no_known).first < length channels
+  pub firsts : (k : ℕ) → k < length ks → (slice_index_or ks k no_known).first < length channels
   pub views : map (λ k. (known_bytes text channels k, k.slots)) ks ≡ map_in text (take n channels) rules
 
 -- the holders are channels
@@ -69,7 +69,7 @@ Bounded n s = IfSome s.r (λ i. i < n) × IfSome s.g (λ i. i < n) × IfSome s.b
 -- three lossy channels with equal steps, by what is kept of them
 abbrev pub together_in : List ChannelDescription → List ChannelInfo → ℕ → ℕ → ℕ → Bool
 together_in channels infos i j k =
-    is_lossy (get_or infos i no_info).scheme && is_lossy (get_or infos j no_info).scheme && is_lossy (get_or infos k no_info).scheme
+    is_lossy (slice_index_or infos i no_info).scheme && is_lossy (slice_index_or infos j no_info).scheme && is_lossy (slice_index_or infos k no_info).scheme
     && same_steps (slice_index_or channels i no_channel) (slice_index_or channels j no_channel)
     && same_steps (slice_index_or channels i no_channel) (slice_index_or channels k no_channel)
 

@@ -1,5 +1,5 @@
 -- Which scheme a channel has, which channels hold the slots of a prefix, and which triplets form.
-use Rattle.std.specs.Prelude.{ℕ, ◌<◌, Bool, true, false, cond, ◌&&◌, List, [], ◌∷◌, map, length, get_or, Some, None, Option, ◌==◌, slice_index_or}
+use Rattle.std.specs.Prelude.{ℕ, ◌<◌, Bool, true, false, cond, ◌&&◌, List, map, length, slice_index_or, Some, None, Option, ◌==◌}
 use Rattle.std.specs.Option.{option_to_list}
 use Rattle.std.specs.Str.{bytes_eq}
 use Rattle.std.specs.List.{flat_map}
@@ -32,16 +32,16 @@ no_triplet = record { r = 0; g = 0; b = 0 }
 
 -- each name lies in the text
 abbrev pub Named : List ℕ → List ChannelDescription → Type 0
-Named text channels = (i : ℕ) → i < length channels → Inside text (get_or channels i no_channel).name
+Named text channels = (i : ℕ) → i < length channels → Inside text (slice_index_or channels i no_channel).name
 
 -- each suffix lies in the text
 abbrev pub Suffixed : List ℕ → List Rule → Type 0
-Suffixed text rules = (j : ℕ) → j < length rules → Inside text (get_or rules j no_rule).suffix
+Suffixed text rules = (j : ℕ) → j < length rules → Inside text (slice_index_or rules j no_rule).suffix
 
 -- the scheme of the rule at a place; Unknown where there is none
 abbrev pub scheme_at : List Rule → Option ℕ → CompressorScheme
 scheme_at rules None = Unknown
-scheme_at rules (Some j) = (get_or rules j no_rule).scheme
+scheme_at rules (Some j) = (slice_index_or rules j no_rule).scheme
 
 -- the scheme of the last rule for the channel
 abbrev pub scheme_in : List ℕ → List Rule → ChannelDescription → CompressorScheme

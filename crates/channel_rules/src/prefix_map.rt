@@ -1,5 +1,5 @@
 // The prefixes met so far, in the order of their first appearance, each with the channels that hold its slots.
-ghost use Rattle.std.specs.Prelude.{◌≡◌, ℕ, ◌+◌, ◌<◌, ◌≤◌, length, get_or, if◌then◌else◌, vec_len, vec_capacity, slice_index_or};
+ghost use Rattle.std.specs.Prelude.{◌≡◌, ℕ, ◌+◌, ◌<◌, ◌≤◌, length, slice_index_or, if◌then◌else◌, vec_len, vec_capacity};
 ghost use Rattle.channel_rules.specs.Names.{Inside};
 ghost use Rattle.channel_rules.specs.Picks.{FirstAt};
 ghost use Rattle.channel_rules.specs.Triplets.{no_channel, Named, Suffixed, scheme_in};
@@ -89,7 +89,7 @@ fn place_of(
     prefix: &[u8],
 ) -> Option<usize>
     requires named { Named text.now channels.now }
-    requires firsts { (k : ℕ) → k < length known.now → (get_or known.now k no_known).first < length channels.now }
+    requires firsts { (k : ℕ) → k < length known.now → (slice_index_or known.now k no_known).first < length channels.now }
     ensures { FirstAt (length known.now) (λ k. known_bytes text.now channels.now (slice_index_or known.now k no_known) ≡ prefix.now) result }
 {
     for (place, met) in known.iter().enumerate() {

@@ -1,5 +1,5 @@
 -- From the checks of the records to the answer.
-use Rattle.std.proofs.Common.{◌≡◌, ℕ, ◌+◌, ◌<◌, ◌≤◌, ◌⊎◌, List, length, get_or, Some, None, Ok, Err, refl, subst, inl, inr, arith, lit<}
+use Rattle.std.proofs.Common.{◌≡◌, ℕ, ◌+◌, ◌<◌, ◌≤◌, ◌⊎◌, List, length, get_or, Some, None, Err, refl, subst, inl, inr, arith, lit<}
 use Rattle.std.proofs.lemmas.Bool.{cases_lt}
 use Rattle.channel_rules.specs.declared.records.Part.{Part}
 use Rattle.channel_rules.specs.declared.records.ChannelDescription.{ChannelDescription}
@@ -11,7 +11,7 @@ use Rattle.roll.specs.declared.refusal.Refusal.TheVariants.{TooMany, ChunkTooLar
 use Rattle.channel_rules.specs.Names.{Inside}
 use Rattle.channel_rules.specs.Picks.{FirstAt}
 use Rattle.channel_rules.specs.Triplets.{no_channel, no_rule, Named, Suffixed, triplets_in}
-use Rattle.roll.specs.Refusals.{number, concerned, Outside, Doubled, Stands, Nearer, Earlier, Judged}
+use Rattle.roll.specs.Refusals.{number, Outside, Doubled, Stands, Earlier, Judged}
 
 at_most : (n m : ℕ) → (n < m → ⊥) → m ≤ n
 at_most n m h = elim (cases_lt n m) [ inl l ↦ absurd (h l) | inr g ↦ g ]

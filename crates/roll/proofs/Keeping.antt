@@ -1,5 +1,5 @@
 -- What classifying lists is what every roll keeps.
-use Rattle.std.proofs.Common.{◌≡◌, ℕ, zero, suc, ◌+◌, ◌*◌, ◌<◌, ◌≤◌, Bool, true, false, cond, ◌&&◌, ◌⊎◌, List, [], ◌∷◌, map, length, get_or, Some, None, Option, sym, refl, ap, ◌∙◌, subst, inl, inr, le-mul_of_pos_right, arith}
+use Rattle.std.proofs.Common.{◌≡◌, ℕ, zero, suc, ◌<◌, ◌≤◌, Bool, true, false, cond, ◌&&◌, List, [], ◌∷◌, map, length, get_or, Some, None, Option, sym, refl, ap, ◌∙◌, subst, inl, inr, le-mul_of_pos_right, arith}
 use native.Mathlib.Nat.{le-max_right}
 use Rattle.std.specs.List.{AllByRecursion as All}
 use Rattle.std.specs.Str.{bytes_eq}
@@ -15,9 +15,9 @@ use Rattle.channel_rules.specs.declared.records.Rule.{Rule}
 use Rattle.channel_rules.specs.declared.records.Triplet.{Triplet}
 use Rattle.channel_rules.specs.Names.{prefix_in}
 use Rattle.channel_rules.specs.Triplets.{no_channel, no_info, no_triplet, is_lossy, holder, lossy_at, same_steps, go_together, three, prefixes_in, triplet_of, triplets_in}
-use Rattle.channel_rules.specs.Sides.{effective, side, info_in}
+use Rattle.channel_rules.specs.Sides.{side, info_in}
 use Rattle.roll.specs.Refusals.{Twice, Doubled}
-use Rattle.roll.specs.Kept.{held, Sides, Alike, SlotIn, in_slot, Members, Shared, Apart}
+use Rattle.roll.specs.Kept.{held, Sides, Alike, Members, Apart}
 use Rattle.channel_rules.specs.Picks.{LastAt}
 use Rattle.roll.specs.Laws.{Fills}
 use Rattle.roll.proofs.Lawful.{laws}

@@ -1,5 +1,5 @@
 -- What every roll keeps.
-use Rattle.std.specs.Prelude.{◌≡◌, ℕ, zero, suc, ◌<◌, ◌≤◌, true, List, length, get_or, slice_index_or}
+use Rattle.std.specs.Prelude.{◌≡◌, ℕ, zero, suc, ◌<◌, ◌≤◌, true, List, length, slice_index_or}
 use Rattle.channel_rules.specs.declared.records.ChannelInfo.{ChannelInfo}
 use Rattle.channel_rules.specs.declared.records.Triplet.{Triplet}
 use Rattle.channel_rules.specs.Triplets.{no_info, no_triplet, is_lossy}
@@ -12,14 +12,14 @@ held t (suc (suc slot)) = t.b
 
 -- no side exceeds 8,192
 abbrev pub Sides : List ChannelInfo → Type 0
-Sides es = (i : ℕ) → i < length es → ((get_or es i no_info).width ≤ 8192) × ((get_or es i no_info).height ≤ 8192)
+Sides es = (i : ℕ) → i < length es → ((slice_index_or es i no_info).width ≤ 8192) × ((slice_index_or es i no_info).height ≤ 8192)
 
 -- a lossy channel of the size of the triplet's first
 abbrev pub Alike : List ChannelInfo → Triplet → ℕ → Type 0
 Alike es t i =
-    (i < length es) × (is_lossy (get_or es i no_info).scheme ≡ true)
-    × ((get_or es i no_info).width ≡ (get_or es t.r no_info).width)
-    × ((get_or es i no_info).height ≡ (get_or es t.r no_info).height)
+    (i < length es) × (is_lossy (slice_index_or es i no_info).scheme ≡ true)
+    × ((slice_index_or es i no_info).width ≡ (slice_index_or es t.r no_info).width)
+    × ((slice_index_or es i no_info).height ≡ (slice_index_or es t.r no_info).height)
 
 -- a slot of a triplet of the list
 pub record SlotIn (ts : List Triplet) : Type 0 where

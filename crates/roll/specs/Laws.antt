@@ -1,5 +1,5 @@
 -- What the definitions that compute say, in the subject's words.
-use Rattle.std.specs.Prelude.{◌≡◌, ℕ, ◌<◌, ◌≤◌, Bool, true, cond, List, [], map, length, get_or, Some, Decides, Option, ◌≢◌, slice_index_or}
+use Rattle.std.specs.Prelude.{◌≡◌, ℕ, ◌<◌, ◌≤◌, true, cond, List, [], map, length, slice_index_or, Some, Decides, Option, ◌≢◌}
 use Rattle.std.specs.Char.{to_ascii_lowercase}
 use Rattle.std.specs.Str.{bytes_eq}
 use Rattle.channel_rules.specs.declared.records.ChannelDescription.{ChannelDescription}
@@ -20,7 +20,7 @@ Equal text suffix type r =
 abbrev pub Fills : List ℕ → List Rule → List ℕ → ℕ → ChannelDescription → Type 0
 Fills text rules prefix slot c =
     (prefix_in text c ≡ prefix)
-    × ((j : ℕ) × (j < length rules) × (is_for text c (slice_index_or rules j no_rule) ≡ true) × ((get_or rules j no_rule).csc_index ≡ Some slot))
+    × ((j : ℕ) × (j < length rules) × (is_for text c (slice_index_or rules j no_rule) ≡ true) × ((slice_index_or rules j no_rule).csc_index ≡ Some slot))
 
 -- y stands in the list at a place up to which z does not
 abbrev pub Before : List (List ℕ) → List ℕ → List ℕ → Type 0

@@ -1,5 +1,5 @@
 -- When a chunk is turned down, under which number, and for which channel or rule.
-use Rattle.std.specs.Prelude.{◌≡◌, ℕ, ◌+◌, ◌%◌, ◌<◌, ◌⊎◌, List, [], length, get_or, ℤ, Ok, Err, Result, MatchOption, slice_index_or, unsigned_abs}
+use Rattle.std.specs.Prelude.{◌≡◌, ℕ, ◌+◌, ◌%◌, ◌<◌, ◌⊎◌, List, [], length, slice_index_or, ℤ, Ok, Err, Result, MatchOption, unsigned_abs}
 use Rattle.channel_rules.specs.declared.records.Part.{Part}
 use Rattle.channel_rules.specs.declared.records.ChannelDescription.{ChannelDescription}
 use Rattle.channel_rules.specs.declared.records.IntegerBounds.{IntegerBounds}
@@ -65,8 +65,8 @@ abbrev pub Stands : List ℕ → List ChannelDescription → List Rule → Integ
 Stands text channels rules bounds TooMany = (64 < length channels) ⊎ (64 < length rules)
 Stands text channels rules bounds ChunkTooLarge = (8192 < bounds.width) ⊎ (8192 < bounds.height)
 Stands text channels rules bounds (OutsideText Nothing) = ⊥
-Stands text channels rules bounds (OutsideText (OfChannel i)) = (i < length channels) × Outside text (get_or channels i no_channel).name
-Stands text channels rules bounds (OutsideText (OfRule j)) = (j < length rules) × Outside text (get_or rules j no_rule).suffix
+Stands text channels rules bounds (OutsideText (OfChannel i)) = (i < length channels) × Outside text (slice_index_or channels i no_channel).name
+Stands text channels rules bounds (OutsideText (OfRule j)) = (j < length rules) × Outside text (slice_index_or rules j no_rule).suffix
 Stands text channels rules bounds (StepTooLarge i) = (i < length channels) × LongStep (slice_index_or channels i no_channel)
 Stands text channels rules bounds (NoSuchSlot j) = (j < length rules) × OddSlot (slice_index_or rules j no_rule)
 Stands text channels rules bounds (OffStep i) = (i < length channels) × Astray bounds (slice_index_or channels i no_channel)

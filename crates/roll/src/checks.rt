@@ -1,5 +1,5 @@
 // What is turned down before any name is looked at.
-ghost use Rattle.std.specs.Prelude.{◌≡◌, length, get_or, Decides, slice_index_or};
+ghost use Rattle.std.specs.Prelude.{◌≡◌, length, slice_index_or, Decides};
 ghost use Rattle.channel_rules.specs.Picks.{FirstAt};
 ghost use Rattle.channel_rules.specs.Triplets.{no_channel, no_rule};
 ghost use Rattle.roll.specs.Refusals.{Outside, LongStep, OddSlot, Multiple, Astray, JudgedRecords, Twice, Doubled};
@@ -14,7 +14,7 @@ fn is_outside(text: &[u8], part: &Part) -> bool
 }
 
 fn outside_name(text: &[u8], channels: &[ChannelDescription]) -> Option<usize>
-    ensures { FirstAt (length channels.now) (λ i. Outside text.now (get_or channels.now i no_channel).name) result }
+    ensures { FirstAt (length channels.now) (λ i. Outside text.now (slice_index_or channels.now i no_channel).name) result }
 {
     for (index, channel) in channels.iter().enumerate() {
         if is_outside(text, &channel.name) {
@@ -25,7 +25,7 @@ fn outside_name(text: &[u8], channels: &[ChannelDescription]) -> Option<usize>
 }
 
 fn outside_suffix(text: &[u8], rules: &[Rule]) -> Option<usize>
-    ensures { FirstAt (length rules.now) (λ j. Outside text.now (get_or rules.now j no_rule).suffix) result }
+    ensures { FirstAt (length rules.now) (λ j. Outside text.now (slice_index_or rules.now j no_rule).suffix) result }
 {
     for (index, rule) in rules.iter().enumerate() {
         if is_outside(text, &rule.suffix) {

@@ -1,5 +1,5 @@
 -- The units of a roll, and where the planes of its lossy channels lie.
-use Rattle.std.specs.Prelude.{◌≡◌, ℕ, ◌+◌, ◌*◌, ◌<◌, ◌≤◌, Bool, true, cond, not, ◌&&◌, ◌||◌, List, ◌++◌, map, length, get_or, take, Some, None, sum_by, filter, Option, ◌==◌, slice_index_or}
+use Rattle.std.specs.Prelude.{◌≡◌, ℕ, ◌+◌, ◌*◌, ◌<◌, ◌≤◌, Bool, true, cond, not, ◌&&◌, ◌||◌, List, ◌++◌, map, length, slice_index_or, take, Some, None, sum_by, filter, Option, ◌==◌}
 use Rattle.std.specs.List.{range_with_len}
 use Rattle.channel_rules.specs.declared.records.ChannelInfo.{ChannelInfo}
 use Rattle.channel_rules.specs.declared.records.Triplet.{Triplet}
@@ -16,7 +16,7 @@ holds i t = t.r == i || t.g == i || t.b == i
 
 -- a lossy channel that no triplet holds
 abbrev pub is_lone : List ChannelInfo → List Triplet → ℕ → Bool
-is_lone es ts i = is_lossy (get_or es i no_info).scheme && not (some (holds i) ts)
+is_lone es ts i = is_lossy (slice_index_or es i no_info).scheme && not (some (holds i) ts)
 
 -- those channels, in channel order
 abbrev pub lones_in : List ChannelInfo → List Triplet → List ℕ
@@ -49,14 +49,14 @@ total_samples es = sum_by plane_area es
 
 -- a lossy channel of the roll
 abbrev pub LossyIn : List ChannelInfo → ℕ → Type 0
-LossyIn es i = (i < length es) × (is_lossy (get_or es i no_info).scheme ≡ true)
+LossyIn es i = (i < length es) × (is_lossy (slice_index_or es i no_info).scheme ≡ true)
 
 -- the unit that stands at a place of the order, with its size; None past the last
 abbrev pub UnitAt : List ChannelInfo → List Triplet → ℕ → Option Unit → Type 0
 UnitAt es ts k None = length (units_in es ts) ≤ k
 UnitAt es ts k (Some u) =
     (k < length (units_in es ts)) × (u.channels ≡ slice_index_or (units_in es ts) k no_unit)
-    × (u.width ≡ (get_or es (leading u.channels) no_info).width) × (u.height ≡ (get_or es (leading u.channels) no_info).height)
+    × (u.width ≡ (slice_index_or es (leading u.channels) no_info).width) × (u.height ≡ (slice_index_or es (leading u.channels) no_info).height)
 
 -- where a plane begins: it ends within the total, and before each later plane begins
 abbrev pub PlaneAt : List ChannelInfo → ℕ → Option ℕ → Type 0

@@ -1,4 +1,4 @@
-use Rattle.std.proofs.Common.{◌≡◌, ◌+◌, get_or, ap, ◌∙◌, arith}
+use Rattle.std.proofs.Common.{get_or, ap, ◌∙◌, arith}
 use Rattle.channel_rules.specs.Names.{Splits}
 use Rattle.channel_rules.proofs.Splitting.{splits-cut}
 use Rattle.channel_rules.proofs.names.prefix_len.Goals as goal

@@ -1,6 +1,5 @@
-use Rattle.std.proofs.Common.{◌≡◌, ℕ, ◌+◌, ◌<◌, List, [], ◌∷◌, ◌++◌, length, get_or, set, Some, None, vec_items, Option, sym, refl, ap, ◌∙◌, subst, arith}
+use Rattle.std.proofs.Common.{◌≡◌, ℕ, ◌+◌, List, [], ◌∷◌, ◌++◌, length, get_or, set, Some, None, vec_items, Option, sym, refl, ap, ◌∙◌, subst, arith}
 use Rattle.std.proofs.lemmas.List.{get_or_read}
-use Rattle.channel_rules.specs.Names.{prefix_in}
 use Rattle.channel_rules.specs.Picks.{FirstAt}
 use Rattle.channel_rules.specs.Triplets.{no_channel}
 use Rattle.channel_rules.specs.declared.records.ChannelDescription.{ChannelDescription}

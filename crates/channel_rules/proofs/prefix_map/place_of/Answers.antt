@@ -1,4 +1,4 @@
-use Rattle.std.proofs.Common.{◌≡◌, sym, ◌∙◌, below_more}
+use Rattle.std.proofs.Common.{sym, ◌∙◌, below_more}
 use Rattle.std.proofs.lemmas.Slice.Eq.{slice_eq-Decides}
 use Rattle.channel_rules.proofs.Picks.{nope}
 use Rattle.channel_rules.proofs.prefix_map.place_of.Goals as goal

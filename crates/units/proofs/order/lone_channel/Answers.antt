@@ -1,4 +1,4 @@
-use Rattle.std.proofs.Common.{◌≡◌, ℕ, ◌+◌, ◌<◌, true, false, length, get_or, sym, ap, ◌∙◌, subst, arith}
+use Rattle.std.proofs.Common.{◌≡◌, ◌<◌, true, false, length, get_or, sym, ap, ◌∙◌, subst, arith}
 use Rattle.units.specs.Units.{is_lone, lones_in}
 use Rattle.units.proofs.Ranked.{kept, count-more, kept-all, ranked}
 use Rattle.units.proofs.order.lone_channel.Goals as goal

@@ -1,4 +1,4 @@
-use Rattle.std.proofs.Common.{◌≡◌, ◌+◌, true, false, length, sym, ap, ◌∙◌, arith}
+use Rattle.std.proofs.Common.{true, false, length, sym, ap, ◌∙◌, arith}
 use Rattle.units.specs.Units.{is_lone}
 use Rattle.units.proofs.Ranked.{count-more, kept-all}
 use Rattle.units.proofs.order.lone_count.Goals as goal

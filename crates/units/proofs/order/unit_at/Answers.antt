@@ -1,4 +1,4 @@
-use Rattle.std.proofs.Common.{◌≡◌, ℕ, ◌+◌, ◌-◌, ◌<◌, ◌≤◌, List, length, get_or, Some, None, vec_items, Option, sym, ap, ◌∙◌, subst, arith, MatchOption}
+use Rattle.std.proofs.Common.{◌≡◌, ℕ, ◌-◌, ◌<◌, ◌≤◌, List, length, get_or, Some, None, vec_items, Option, sym, ap, ◌∙◌, subst, arith, MatchOption}
 use Rattle.channel_rules.specs.declared.records.ChannelInfo.{ChannelInfo}
 use Rattle.channel_rules.specs.declared.records.Triplet.{Triplet}
 use Rattle.units.specs.declared.unit.UnitChannels.TheVariants.{Triplet as OfTriplet, Lone}

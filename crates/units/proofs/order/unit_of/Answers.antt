@@ -1,4 +1,4 @@
-use Rattle.std.proofs.Common.{◌≡◌, ◌≤◌, List, get_or, sym, subst}
+use Rattle.std.proofs.Common.{◌≤◌, List, get_or, sym, subst}
 use Rattle.channel_rules.specs.declared.records.ChannelInfo.{ChannelInfo}
 use Rattle.channel_rules.specs.Triplets.{no_info}
 use Rattle.units.proofs.order.unit_of.Goals as goal

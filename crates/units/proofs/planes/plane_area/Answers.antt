@@ -1,4 +1,4 @@
-use Rattle.std.proofs.Common.{◌*◌, cond, sym, ap, mul-le-mul}
+use Rattle.std.proofs.Common.{◌*◌, cond, ap, mul-le-mul}
 use Rattle.units.proofs.planes.plane_area.Goals as goal
 
 pub returns-then-is_lossy : goal.returns-then-is_lossy

@@ -1,6 +1,5 @@
 use Rattle.std.proofs.cmp.Tests.{cases_from_iff}
-use Rattle.std.proofs.Common.{rules, ◌≡◌, true, false, cond, map, Decides, sym, ◌∙◌, subst}
-use Rattle.std.specs.Char.{to_ascii_lowercase}
+use Rattle.std.proofs.Common.{rules, sym}
 use Rattle.std.proofs.lemmas.Slice.Eq.{slice_eq-Decides}
 use denote.Enum.Bare.{same_true}
 use Rattle.channel_rules.specs.contracts.records.SampleType.{the_type}
