@@ -191,10 +191,29 @@ def respell(path, word):
             file.write(new)
 
 
+def one_element_word(path):
+    """`slice_index_or` for the element of a list, which the kit's script leaves as `get_or` in places."""
+    with open(path, encoding="utf-8") as file:
+        old = file.read()
+    new = re.sub(r"(?<![\w\-])get_or(?![\w\-])", "slice_index_or", old)
+    new = re.sub(r"(use Rattle\.std\.specs\.Prelude\.\{)([^}]*)\}", without_repeats, new)
+    if new != old:
+        with open(path, "w", encoding="utf-8") as file:
+            file.write(new)
+
+
+def without_repeats(found):
+    names = dict.fromkeys(name.strip() for name in found.group(2).split(","))
+    return found.group(1) + ", ".join(names) + "}"
+
+
 def main():
     for pattern in ("specs/**/*.antt", "proofs/**/*.antt", "src/**/*.rt"):
         for path in glob.glob("crates/*/" + pattern, recursive=True):
             respell(path, WORD)
+    for pattern in ("specs/**/*.antt", "src/**/*.rt"):
+        for path in glob.glob("crates/*/" + pattern, recursive=True):
+            one_element_word(path)
     for path in glob.glob("docs/*.md") + ["README.md"]:
         respell(path, PAGE_WORD)
 
