@@ -12,19 +12,34 @@ import re
 RENAMED = dict(
     line.split()
     for line in """
+    ac-begins ac_begins
+    ac-written ac_written
     acLine ac_line
     acLines ac_lines
     acRun ac_run
+    adds-by adds_by
     afterAc after_ac
     afterDc after_dc
     afterField after_field
     afterHeading after_heading
     afterName after_name
+    all-formed all_formed
+    all-some all_some
+    all-unit all_unit
     answer-runs answer_runs
+    at-cons at_cons
     atAc at_ac
     atDc at_dc
+    before-later before_later
+    behind-name behind_name
+    both-decide both_decide
+    both-more both_more
+    by-slot by_slot
     channelIn channel_in
+    count-more count_more
     countIn count_in
+    dc-begins dc_begins
+    dc-written dc_written
     dcLine dc_line
     dcLines dc_lines
     dcRun dc_run
@@ -37,13 +52,21 @@ RENAMED = dict(
     fieldsSaid fields_said
     fileIn file_in
     filledBy filled_by
+    first-appearances first_appearances
+    first-letter first_letter
+    first-line first_line_cut
     firstIn first_in
+    firsts-push firsts_push
+    firsts-set firsts_set
     flagNext flag_next
     flagOn flag_on
     formedBy formed_by
     formedOf formed_of
+    four-pairs four_pairs
     goTogether go_together
     goesOn goes_on
+    head-next head_next
+    head-written head_written
     headStep head_step
     headingOf heading_of
     heightOn height_on
@@ -59,6 +82,7 @@ RENAMED = dict(
     infoIn info_in
     into-ac into_ac
     into-dc into_dc
+    is-own is_own
     isBlank is_blank
     isEscape is_escape
     isFor is_for
@@ -68,13 +92,17 @@ RENAMED = dict(
     isSlot is_slot
     joined-map joined_map
     joined-runs joined_runs
+    kept-all kept_all
     known-bounded known_bounded
     knownBytes known_bytes
+    last-decided last_decided
+    last-in last_in
     lastPlace last_place
     lastPlace-is last_place-is
     lastPlace-more last_place-more
     lastPlace-none last_place-none
     lastPlace-push last_place-push
+    least-cover least_cover
     leaves-more leaves_more
     lent-infos lent_infos
     letterIn letter_in
@@ -90,6 +118,7 @@ RENAMED = dict(
     list-more list_more
     lone-at lone_at
     lonesIn lones_in
+    long-us long_us
     lossy-same lossy_same
     lossyAt lossy_at
     map-twice map_twice
@@ -98,8 +127,12 @@ RENAMED = dict(
     met-old met_old
     moreAc more_ac
     moreDc more_dc
+    name-added name_added
+    name-inside name_inside
     nameIn name_in
     negativeIn negative_in
+    never-closed never_closed
+    next-lines next_lines
     no-fault no_fault
     no-fewer no_fewer
     no-high no_high
@@ -115,6 +148,7 @@ RENAMED = dict(
     numberNext number_next
     onFirst on_first
     onLine on_line
+    own-slot own_slot
     pairwise-at pairwise_at
     pairwise-distinct pairwise_distinct
     pairwise-found pairwise_found
@@ -130,19 +164,32 @@ RENAMED = dict(
     quote-first quote_first
     read-is-written read_is_written
     rectangleIn rectangle_in
+    room-channels room_channels
+    room-map room_map
+    room-triplets room_triplets
+    rule-decides rule_decides
     ruleIn rule_in
     run-answers run_answers
+    same-name same_name-law
+    same-type same_type-law
     sameSteps same_steps
     sameType same_type
+    scheme-more scheme_more
     schemeAt scheme_at
     schemeIn scheme_in
     schemeNext scheme_next
+    sides-take sides_take
     signedIn signed_in
+    slot-decides slot_decides
     slotIn slot_in
     slotNext slot_next
     slotOn slot_on
     slots-by slots_by
     slots-more slots_more
+    some-field some_field
+    some-line some_line
+    split-more split_more
+    splits-cut splits_cut
     stream-read stream_read
     stream-written stream_written
     streamStep stream_step
@@ -154,6 +201,7 @@ RENAMED = dict(
     togetherIn together_in
     topOn top_on
     totalSamples total_samples
+    triplet-at triplet_at
     tripletOf triplet_of
     tripletsIn triplets_in
     typeNext type_next
@@ -163,6 +211,7 @@ RENAMED = dict(
     unlessRefused unless_refused
     unsignedIn unsigned_in
     up-to-0 up_to_0
+    view-at view_at
     widthOn width_on
     with-field with_field
     withAc with_ac
@@ -170,6 +219,10 @@ RENAMED = dict(
     withDc with_dc
     withRectangle with_rectangle
     withRule with_rule
+    within-total within_total
+    word-pairs word_pairs
+    words-read words_read
+    words-written words_written
     written-is-read written_is_read
     writtenIn written_in
     xOn x_on

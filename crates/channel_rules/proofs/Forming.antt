@@ -30,9 +30,9 @@ joined_step f xs i d h = ap (flat_map f) (take_more xs i d h) ∙ sym (flat_map_
 abbrev In : ℕ → Option ℕ → Type 0
 In n o = IfSome o (λ i. i < n)
 
-last-in : (n : ℕ) (P : ℕ → Type 0) (o : Option ℕ) → LastAt n P o → In n o
-last-in n P None l = tt
-last-in n P (Some k) l = l.0
+last_in : (n : ℕ) (P : ℕ → Type 0) (o : Option ℕ) → LastAt n P o → In n o
+last_in n P None l = tt
+last_in n P (Some k) l = l.0
 
 -- tests that agree below n form the same triplet
 three-same : (n : ℕ) (t u : ℕ → ℕ → ℕ → Bool) → ((i j k : ℕ) → i < n → j < n → k < n → t i j k ≡ u i j k)
@@ -45,7 +45,7 @@ three-same n t u e (Some i) (Some j) (Some k) x y z = ap (λ b. cond b (Some (re
 module _ (text : List ℕ) (chs : List ChannelDescription) (rules : List Rule) where
   pub holder_in : (p : List ℕ) (slot : ℕ) → In (length chs) (holder text chs rules p slot)
   holder_in p slot =
-      last-in (length chs) (λ k. filled_by text rules p slot (get_or chs k no_channel) ≡ true) (holder text chs rules p slot)
+      last_in (length chs) (λ k. filled_by text rules p slot (get_or chs k no_channel) ≡ true) (holder text chs rules p slot)
       (last_place-is (filled_by text rules p slot) chs no_channel)
 
   module _ (ks : List KnownPrefix) (m : Met text chs rules (length chs) ks) where
@@ -82,8 +82,8 @@ module _ (text : List ℕ) (chs : List ChannelDescription) (rules : List Rule) w
           let steps : Bool → Bool = λ v. v && same_steps (get_or chs i no_channel) (get_or chs j no_channel) && same_steps (get_or chs i no_channel) (get_or chs k no_channel) in
           λ n. steps (p n && q n && r n)
 
-      pub all-formed : formed_of chs infos ks ≡ triplets_in text chs rules
-      all-formed =
+      pub all_formed : formed_of chs infos ks ≡ triplets_in text chs rules
+      all_formed =
           sym (joined_map (λ v. option_to_list (formed_by chs infos v.1)) view ks)
           ∙ ap (flat_map (λ v. option_to_list (formed_by chs infos v.1))) views
           ∙ joined_map (λ v. option_to_list (formed_by chs infos v.1)) pair (prefixes_in text chs)

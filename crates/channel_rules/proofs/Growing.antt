@@ -22,9 +22,9 @@ some-none : {X : Type 0} (test : X → Bool) (xs : List X) → All (λ x. test x
 some-none test [] a = refl
 some-none test (x ∷ xs) a = ap (λ b. b || some test xs) a.0 ∙ some-none test xs a.1
 
-all-some : {X : Type 0} (test : X → Bool) (xs : List X) → some test xs ≡ false → All (λ x. test x ≡ false) xs
-all-some test [] e = tt
-all-some test (x ∷ xs) e = at (test x) refl e (all-some test xs)
+all_some : {X : Type 0} (test : X → Bool) (xs : List X) → some test xs ≡ false → All (λ x. test x ≡ false) xs
+all_some test [] e = tt
+all_some test (x ∷ xs) e = at (test x) refl e (all_some test xs)
   where
     at : (b : Bool) → test x ≡ b → (b || some test xs) ≡ false → (some test xs ≡ false → All (λ y. test y ≡ false) xs) → (test x ≡ false) × All (λ y. test y ≡ false) xs
     at true p q h = absurd (nope true refl q)
@@ -69,11 +69,11 @@ to_all n ks f = All-from_get_or (λ k. k.first < n) ks no_known f
 from_all : (n : ℕ) (ks : List KnownPrefix) → All (λ k. k.first < n) ks → Firsts n ks
 from_all n ks a k l = All-get_or (λ k. k.first < n) ks k no_known l a
 
-pub firsts-set : (n : ℕ) (ks : List KnownPrefix) (at : ℕ) (new : KnownPrefix) → Firsts n ks → new.first < n → Firsts n (set ks at new)
-firsts-set n ks at new f l = from_all n (set ks at new) (All-set (λ k. k.first < n) ks at new l (to_all n ks f))
+pub firsts_set : (n : ℕ) (ks : List KnownPrefix) (at : ℕ) (new : KnownPrefix) → Firsts n ks → new.first < n → Firsts n (set ks at new)
+firsts_set n ks at new f l = from_all n (set ks at new) (All-set (λ k. k.first < n) ks at new l (to_all n ks f))
 
-pub firsts-push : (n : ℕ) (ks : List KnownPrefix) (new : KnownPrefix) → Firsts n ks → new.first < n → Firsts n (ks ++ new ∷ [])
-firsts-push n ks new f l = from_all n (ks ++ new ∷ []) (All-push (λ k. k.first < n) ks new (to_all n ks f) l)
+pub firsts_push : (n : ℕ) (ks : List KnownPrefix) (new : KnownPrefix) → Firsts n ks → new.first < n → Firsts n (ks ++ new ∷ [])
+firsts_push n ks new f l = from_all n (ks ++ new ∷ []) (All-push (λ k. k.first < n) ks new (to_all n ks f) l)
 
 module _ (text : List ℕ) (chs : List ChannelDescription) (rules : List Rule) (i : ℕ) (h : i < length chs) where
   abbrev c : ChannelDescription
@@ -119,8 +119,8 @@ module _ (text : List ℕ) (chs : List ChannelDescription) (rules : List Rule) (
   long : (ks : List KnownPrefix) → Views ks → length ks ≡ length D
   long ks m = sym (length-map ks view) ∙ ap length m ∙ length-map D (g i)
 
-  view-at : (ks : List KnownPrefix) → Views ks → (k : ℕ) → k < length ks → view (get_or ks k no_known) ≡ g i (get_or D k [])
-  view-at ks m k l =
+  view_at : (ks : List KnownPrefix) → Views ks → (k : ℕ) → k < length ks → view (get_or ks k no_known) ≡ g i (get_or D k [])
+  view_at ks m k l =
       sym (get_or-map view ks k no_known ([], no_slots) l) ∙ ap (λ x. get_or x k ([], no_slots)) m
       ∙ get_or-map (g i) D k [] ([], no_slots) (omega (arith, long ks m))
 
@@ -130,9 +130,9 @@ module _ (text : List ℕ) (chs : List ChannelDescription) (rules : List Rule) (
   met_new ks m e =
       let none : All (λ p. test p ≡ false) D = All-from_get_or (λ p. test p ≡ false) D [] (λ k l.
       let in' : k < length ks = omega (arith, long ks m) in
-      differs (get_or D k []) own (λ s. e k in' (ap (λ v. v.0) (view-at ks m k in') ∙ s))) in
+      differs (get_or D k []) own (λ s. e k in' (ap (λ v. v.0) (view_at ks m k in') ∙ s))) in
       let lone = some-none test D none in
-      let far = all-some (λ x. bytes_eq (prefix_in text x) own) (take i chs) (sym (some-map test (prefix_in text) (take i chs)) ∙ sym (some-distinct bytes_eq test cong (map (prefix_in text) (take i chs))) ∙ lone) in
+      let far = all_some (λ x. bytes_eq (prefix_in text x) own) (take i chs) (sym (some-map test (prefix_in text) (take i chs)) ∙ sym (some-distinct bytes_eq test cong (map (prefix_in text) (take i chs))) ∙ lone) in
       let empty : (k : ℕ) → holder text (take i chs) rules own k ≡ None = λ k. last_place-none (filled_by text rules own k) (take i chs)
       (All-weaker (λ x. bytes_eq (prefix_in text x) own ≡ false) (λ x. filled_by text rules own k x ≡ false) (λ x q. ap (λ b. b && writes text rules k x) q) (take i chs) far) in
       let others : map (g (i + 1)) D ≡ map (g i) D = map_same (g (i + 1)) (g i) D
@@ -153,19 +153,19 @@ module _ (text : List ℕ) (chs : List ChannelDescription) (rules : List Rule) (
       → map view (set ks at (record { first = (get_or ks at no_known).first; slots = stamped text rules c i (get_or ks at no_known).slots })) ≡ map_in text (take (i + 1) chs) rules
   met_old ks m at a e =
       let inside : at < length D = omega (arith, long ks m) in
-      let is-own : get_or D at [] ≡ own = sym (ap (λ v. v.0) (view-at ks m at a)) ∙ e in
-      let passes : test (get_or D at []) ≡ true = (bytes_eq-Decides (get_or D at []) own).1 is-own in
+      let is_own : get_or D at [] ≡ own = sym (ap (λ v. v.0) (view_at ks m at a)) ∙ e in
+      let passes : test (get_or D at []) ≡ true = (bytes_eq-Decides (get_or D at []) own).1 is_own in
       let new : KnownPrefix = record { first = (get_or ks at no_known).first; slots = stamped text rules c i (get_or ks at no_known).slots } in
       let here : view new ≡ g (i + 1) (get_or D at []) =
-      ap (λ v. (v.0, stamped text rules c i v.1)) (view-at ks m at a)
-      ∙ ap (λ s. (get_or D at [], s)) (sym (slots_at (get_or D at []) true ((bytes_eq-Decides own (get_or D at [])).1 (sym is-own)))) in
+      ap (λ v. (v.0, stamped text rules c i v.1)) (view_at ks m at a)
+      ∙ ap (λ s. (get_or D at [], s)) (sym (slots_at (get_or D at []) true ((bytes_eq-Decides own (get_or D at [])).1 (sym is_own)))) in
       let once = pairwise_distinct bytes_eq (map (prefix_in text) (take i chs)) in
       let apart : (j : ℕ) → j < length D → j ≢ at → bytes_eq own (get_or D j []) ≡ false = λ j l n.
       elim (cases_order j at) [
         | inl q ↦ absurd (n q)
         | inr q ↦ elim q [
-          | inl b ↦ turned (get_or D j []) own (subst (λ p. bytes_eq (get_or D j []) p ≡ false) is-own (pairwise_at (λ x y. bytes_eq x y ≡ false) D j at [] b inside once))
-          | inr b ↦ subst (λ p. bytes_eq p (get_or D j []) ≡ false) is-own (pairwise_at (λ x y. bytes_eq x y ≡ false) D at j [] b l once)
+          | inl b ↦ turned (get_or D j []) own (subst (λ p. bytes_eq (get_or D j []) p ≡ false) is_own (pairwise_at (λ x y. bytes_eq x y ≡ false) D j at [] b inside once))
+          | inr b ↦ subst (λ p. bytes_eq p (get_or D j []) ≡ false) is_own (pairwise_at (λ x y. bytes_eq x y ≡ false) D at j [] b l once)
         ]
       ] in
       let lengths : length (set (map (g i) D) at (view new)) ≡ length (map (g (i + 1)) D) = length-set (map (g i) D) at (view new) ∙ length-map D (g i) ∙ sym (length-map D (g (i + 1))) in

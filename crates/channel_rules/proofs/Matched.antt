@@ -8,10 +8,10 @@ use Rattle.channel_rules.specs.declared.records.SampleType.{SampleType}
 use Rattle.channel_rules.specs.declared.records.SampleType.TheVariants.{U32, F16, F32}
 use Rattle.channel_rules.specs.Rules.{same_type, same_name}
 
-pub same-type : (a : SampleType) → same_type a a ≡ true
-same-type U32 = refl
-same-type F16 = refl
-same-type F32 = refl
+pub same_type-law : (a : SampleType) → same_type a a ≡ true
+same_type-law U32 = refl
+same_type-law F16 = refl
+same_type-law F32 = refl
 
 pub decides_when : {P : Type 0} (r : Bool) → MatchBool r P (P → ⊥) → Decides r P
 decides_when true p = ((λ _. p), (λ _. refl))
@@ -22,6 +22,6 @@ pub named : (t u : SampleType) (ignore r : Bool) (a b c : List ℕ) → t ≡ u 
     → Decides r (cond ignore (map to_ascii_lowercase a ≡ map to_ascii_lowercase b) (a ≡ b)) → r ≡ (same_type t u && same_name ignore a c)
 named t u true r a b c e f d =
     same_from_decides r (bytes_eq (map to_ascii_lowercase a) (map to_ascii_lowercase b)) d (bytes_eq-Decides (map to_ascii_lowercase a) (map to_ascii_lowercase b))
-    ∙ simp (e, f, same-type)
+    ∙ simp (e, f, same_type-law)
 named t u false r a b c e f d =
-    same_from_decides r (bytes_eq a b) d (bytes_eq-Decides a b) ∙ simp (e, f, same-type)
+    same_from_decides r (bytes_eq a b) d (bytes_eq-Decides a b) ∙ simp (e, f, same_type-law)

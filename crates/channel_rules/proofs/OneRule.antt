@@ -37,8 +37,8 @@ module _ (text : List ℕ) (rules : List Rule) (own : ChannelDescription) (i : �
       let less : j < i = omega (arith, l.0, length-take-le i rules (omega arith)) in
       ap (λ (r : Rule). r.scheme) (get_or-take (i + 1) rules j no_rule (omega arith) ∙ sym (get_or-take i rules j no_rule less))
 
-  pub scheme-more : scheme_in text (take (i + 1) rules) own ≡ cond (is_for text own (get_or rules i no_rule)) (get_or rules i no_rule).scheme (scheme_in text (take i rules) own)
-  scheme-more =
+  pub scheme_more : scheme_in text (take (i + 1) rules) own ≡ cond (is_for text own (get_or rules i no_rule)) (get_or rules i no_rule).scheme (scheme_in text (take i rules) own)
+  scheme_more =
       ap (scheme_at (take (i + 1) rules)) (last_place-more (is_for text own) rules i no_rule h)
       ∙ elim (is_for text own (get_or rules i no_rule)) as (λ b. scheme_at (take (i + 1) rules) (cond b (Some i) (last_place (is_for text own) (take i rules))) ≡ cond b (get_or rules i no_rule).scheme (scheme_in text (take i rules) own)) [
         | true ↦ ap (λ (r : Rule). r.scheme) (get_or-take (i + 1) rules i no_rule (omega arith))

@@ -36,7 +36,7 @@ module _ {X : Type 0} (test : X → Bool) where
   -- what `last_place` finds is the last that passes
   pub last_place-is : (xs : List X) (d : X) → LastAt (length xs) (λ k. test (get_or xs k d) ≡ true) (last_place test xs)
   last_place-is [] d = λ i h e. absurd (let z : ⊥ = omega arith in z)
-  last_place-is (x ∷ xs) d = at-cons (last_place test xs) (test x) refl (last_place-is xs d)
+  last_place-is (x ∷ xs) d = at_cons (last_place test xs) (test x) refl (last_place-is xs d)
     where
       after : (k : ℕ) → ((i : ℕ) → k < i → i < length xs → test (get_or xs i d) ≡ true → ⊥) → (i : ℕ) → suc k < i → i < length (x ∷ xs) → test (get_or (x ∷ xs) i d) ≡ true → ⊥
       after k h zero l u = absurd (let z : ⊥ = omega arith in z)
@@ -50,10 +50,10 @@ module _ {X : Type 0} (test : X → Bool) where
       never e h zero u = λ p. nope (test x) p e
       never e h (suc i) u = h i (omega arith)
 
-      at-cons : (o : Option ℕ) (b : Bool) → test x ≡ b → LastAt (length xs) (λ k. test (get_or xs k d) ≡ true) o → LastAt (length (x ∷ xs)) (λ k. test (get_or (x ∷ xs) k d) ≡ true) (option_or (option_map suc o) (cond b (Some zero) None))
-      at-cons (Some k) b e h = (omega arith, h.1, after k h.2)
-      at-cons None true e h = (omega arith, e, none h)
-      at-cons None false e h = never e h
+      at_cons : (o : Option ℕ) (b : Bool) → test x ≡ b → LastAt (length xs) (λ k. test (get_or xs k d) ≡ true) o → LastAt (length (x ∷ xs)) (λ k. test (get_or (x ∷ xs) k d) ≡ true) (option_or (option_map suc o) (cond b (Some zero) None))
+      at_cons (Some k) b e h = (omega arith, h.1, after k h.2)
+      at_cons None true e h = (omega arith, e, none h)
+      at_cons None false e h = never e h
 
 pub some-map : {X Y : Type 0} (test : Y → Bool) (f : X → Y) (xs : List X) → some test (map f xs) ≡ some (λ x. test (f x)) xs
 some-map test f [] = refl
@@ -62,18 +62,18 @@ some-map test f (x ∷ xs) = ap (λ b. test (f x) || b) (some-map test f xs)
 module _ {X : Type 0} (same : X → X → Bool) where
   pub distinct_push : (xs : List X) (x : X) → distinct same (xs ++ x ∷ []) ≡ cond (some (λ y. same y x) xs) (distinct same xs) (distinct same xs ++ x ∷ [])
   distinct_push [] x = refl
-  distinct_push (y ∷ xs) x = ap (λ l. y ∷ filter (λ z. not (same y z)) l) (distinct_push xs x) ∙ at-cons (some (λ z. same z x) xs) (same y x) refl
+  distinct_push (y ∷ xs) x = ap (λ l. y ∷ filter (λ z. not (same y z)) l) (distinct_push xs x) ∙ at_cons (some (λ z. same z x) xs) (same y x) refl
     where
       test : X → Bool
       test z = not (same y z)
 
-      at-cons : (s b : Bool) → same y x ≡ b
+      at_cons : (s b : Bool) → same y x ≡ b
           → y ∷ filter (λ z. not (same y z)) (cond s (distinct same xs) (distinct same xs ++ x ∷ []))
           ≡ cond (b || s) (y ∷ filter (λ z. not (same y z)) (distinct same xs)) ((y ∷ filter (λ z. not (same y z)) (distinct same xs)) ++ x ∷ [])
-      at-cons true true e = refl
-      at-cons true false e = refl
-      at-cons false true e = ap (◌∷◌ y) (filter-append (λ z. not (same y z)) (distinct same xs) (x ∷ []) ∙ simp (e, append-nil))
-      at-cons false false e = ap (◌∷◌ y) (filter-append (λ z. not (same y z)) (distinct same xs) (x ∷ []) ∙ simp e)
+      at_cons true true e = refl
+      at_cons true false e = refl
+      at_cons false true e = ap (◌∷◌ y) (filter-append (λ z. not (same y z)) (distinct same xs) (x ∷ []) ∙ simp (e, append-nil))
+      at_cons false false e = ap (◌∷◌ y) (filter-append (λ z. not (same y z)) (distinct same xs) (x ∷ []) ∙ simp e)
 
 -- a test that goes by the bytes finds the same without the repeats
 module _ {X : Type 0} (same : X → X → Bool) (test : X → Bool) (cong : (x y : X) → same x y ≡ true → test x ≡ test y) where

@@ -10,16 +10,16 @@ tail_splits b bs n m e h = record {
   dotted = λ k s. elim e [ inl p ↦ h.dotted (suc k) (omega arith) | inr p ↦ absurd (let z : ⊥ = omega arith in z) ];
 }
 
-pub splits-cut : (name : List ℕ) (n : ℕ) → Splits name n → n ≡ cut name
-splits-cut [] n h = omega (arith, h.within)
-splits-cut (b ∷ bs) zero h =
-    let i = splits-cut bs zero (tail_splits b bs 0 0 (inr (refl, refl)) h) in
+pub splits_cut : (name : List ℕ) (n : ℕ) → Splits name n → n ≡ cut name
+splits_cut [] n h = omega (arith, h.within)
+splits_cut (b ∷ bs) zero h =
+    let i = splits_cut bs zero (tail_splits b bs 0 0 (inr (refl, refl)) h) in
     let p : b ≡ 46 → ⊥ = h.plain 0 (omega arith) (omega arith) in
     grind (arith, nat_tests)
-splits-cut (b ∷ bs) (suc zero) h =
-    let i = splits-cut bs zero (tail_splits b bs 1 0 (inl refl) h) in
+splits_cut (b ∷ bs) (suc zero) h =
+    let i = splits_cut bs zero (tail_splits b bs 1 0 (inl refl) h) in
     let p : b ≡ 46 = h.dotted 0 (omega arith) in
     grind (arith, nat_tests)
-splits-cut (b ∷ bs) (suc (suc m)) h =
-    let i = splits-cut bs (suc m) (tail_splits b bs (suc (suc m)) (suc m) (inl refl) h) in
+splits_cut (b ∷ bs) (suc (suc m)) h =
+    let i = splits_cut bs (suc m) (tail_splits b bs (suc (suc m)) (suc m) (inl refl) h) in
     grind (arith, nat_tests)

@@ -90,9 +90,9 @@ abbrev lines_behind : List ℕ → List (List ℕ)
 lines_behind [] = []
 lines_behind (b ∷ bs) = lines_of bs
 
-first-line : (bs : List ℕ) → lines_of bs ≡ front Line bs ∷ lines_behind (past Line bs)
-first-line [] = refl
-first-line (b ∷ bs) = at (eqb b 10) refl (first-line bs)
+first_line_cut : (bs : List ℕ) → lines_of bs ≡ front Line bs ∷ lines_behind (past Line bs)
+first_line_cut [] = refl
+first_line_cut (b ∷ bs) = at (eqb b 10) refl (first_line_cut bs)
   where
     at : (t : Bool) → eqb b 10 ≡ t → lines_of bs ≡ front Line bs ∷ lines_behind (past Line bs) → lines_of (b ∷ bs) ≡ front Line (b ∷ bs) ∷ lines_behind (past Line (b ∷ bs))
     at true e more =
@@ -103,21 +103,21 @@ first-line (b ∷ bs) = at (eqb b 10) refl (first-line bs)
         ∙ (λ i. sym (front-more Line b bs (ap not e)) i ∷ lines_behind (sym (past_more Line b bs (ap not e)) i))
 
 pub last_line : (bs rest : List ℕ) → rest ≡ past Line bs → length rest ≡ 0 → lines_of bs ≡ front Line bs ∷ []
-last_line bs rest e h = first-line bs ∙ ap (λ q. front Line bs ∷ lines_behind q) (sym e) ∙ ap (λ ls. front Line bs ∷ ls) (at rest h)
+last_line bs rest e h = first_line_cut bs ∙ ap (λ q. front Line bs ∷ lines_behind q) (sym e) ∙ ap (λ ls. front Line bs ∷ ls) (at rest h)
   where
     at : (rest : List ℕ) → length rest ≡ 0 → lines_behind rest ≡ []
     at [] h = refl
     at (b ∷ rest) h = absurd (let z : ⊥ = omega arith in z)
 
-pub next-lines : (bs rest : List ℕ) → rest ≡ past Line bs → 0 < length rest → lines_of bs ≡ front Line bs ∷ lines_of (drop 1 rest)
-next-lines bs rest e h = first-line bs ∙ ap (λ q. front Line bs ∷ lines_behind q) (sym e) ∙ ap (λ ls. front Line bs ∷ ls) (at rest h)
+pub next_lines : (bs rest : List ℕ) → rest ≡ past Line bs → 0 < length rest → lines_of bs ≡ front Line bs ∷ lines_of (drop 1 rest)
+next_lines bs rest e h = first_line_cut bs ∙ ap (λ q. front Line bs ∷ lines_behind q) (sym e) ∙ ap (λ ls. front Line bs ∷ ls) (at rest h)
   where
     at : (rest : List ℕ) → 0 < length rest → lines_behind rest ≡ lines_of (drop 1 rest)
     at [] h = absurd (let z : ⊥ = omega arith in z)
     at (b ∷ rest) h = refl
 
-pub some-line : (bs : List ℕ) → 0 < length (lines_of bs)
-some-line bs = rw (first-line bs) (omega arith)
+pub some_line : (bs : List ℕ) → 0 < length (lines_of bs)
+some_line bs = rw (first_line_cut bs) (omega arith)
 
 length-on_first : (b : ℕ) (ls : List (List ℕ)) → 0 < length ls → length (on_first b ls) ≡ length ls
 length-on_first b [] h = absurd (let z : ⊥ = omega arith in z)
@@ -125,14 +125,14 @@ length-on_first b (l ∷ ls) h = refl
 
 -- a file has one line more than line feeds
 pub lines_counted : (bs : List ℕ) → length (lines_of bs) ≡ line_ends bs + 1
-lines_counted bs = omega (arith, some-line bs, is_count_by (λ bs. length (lines_of bs) - 1) (λ byte. eqb byte 10) refl step bs)
+lines_counted bs = omega (arith, some_line bs, is_count_by (λ bs. length (lines_of bs) - 1) (λ byte. eqb byte 10) refl step bs)
   where
     at : (b : ℕ) (ls : List (List ℕ)) (t : Bool) → 0 < length ls → length (cond t ([] ∷ ls) (on_first b ls)) - 1 ≡ cond t (1 + (length ls - 1)) (length ls - 1)
     at b ls true some = omega arith
     at b ls false some = omega (arith, length-on_first b ls some)
 
     step : (b : ℕ) (bs : List ℕ) → length (lines_of (b ∷ bs)) - 1 ≡ cond (eqb b 10) (1 + (length (lines_of bs) - 1)) (length (lines_of bs) - 1)
-    step b bs = at b (lines_of bs) (eqb b 10) (some-line bs)
+    step b bs = at b (lines_of bs) (eqb b 10) (some_line bs)
 
 -- what is left of a file, with a place for the line that begins there
 abbrev pub bytes_left : Option (Bor (List ℕ)) → ℕ

@@ -15,27 +15,27 @@ two p q = option_map (number_from_digits 16) (before p (before q (Some [])))
 abbrev four : Option ℕ → Option ℕ → Option ℕ → Option ℕ → Option ℕ
 four p q r s = option_map (number_from_digits 16) (before p (before q (before r (before s (Some [])))))
 
-four-pairs : (p q r s : Option ℕ) → four p q r s ≡ pairs (two p q) (two r s)
-four-pairs None q r s = refl
-four-pairs (Some a) None r s = refl
-four-pairs (Some a) (Some b) None s = refl
-four-pairs (Some a) (Some b) (Some c) None = refl
-four-pairs (Some a) (Some b) (Some c) (Some d) = ap Some (omega arith)
+four_pairs : (p q r s : Option ℕ) → four p q r s ≡ pairs (two p q) (two r s)
+four_pairs None q r s = refl
+four_pairs (Some a) None r s = refl
+four_pairs (Some a) (Some b) None s = refl
+four_pairs (Some a) (Some b) (Some c) None = refl
+four_pairs (Some a) (Some b) (Some c) (Some d) = ap Some (omega arith)
 
-word-pairs : (bs : List ℕ) → length bs ≡ 4 → hex_word bs ≡ pairs (hex_pair (get_or bs 0 0 ∷ get_or bs 1 0 ∷ [])) (hex_pair (get_or bs 2 0 ∷ get_or bs 3 0 ∷ []))
-word-pairs (a ∷ b ∷ c ∷ d ∷ []) e = four-pairs (hex_digit a) (hex_digit b) (hex_digit c) (hex_digit d)
-word-pairs [] e = absurd (omega arith)
-word-pairs (a ∷ []) e = absurd (omega arith)
-word-pairs (a ∷ b ∷ []) e = absurd (omega arith)
-word-pairs (a ∷ b ∷ c ∷ []) e = absurd (omega arith)
-word-pairs (a ∷ b ∷ c ∷ d ∷ x ∷ bs) e = absurd (omega arith)
+word_pairs : (bs : List ℕ) → length bs ≡ 4 → hex_word bs ≡ pairs (hex_pair (get_or bs 0 0 ∷ get_or bs 1 0 ∷ [])) (hex_pair (get_or bs 2 0 ∷ get_or bs 3 0 ∷ []))
+word_pairs (a ∷ b ∷ c ∷ d ∷ []) e = four_pairs (hex_digit a) (hex_digit b) (hex_digit c) (hex_digit d)
+word_pairs [] e = absurd (omega arith)
+word_pairs (a ∷ []) e = absurd (omega arith)
+word_pairs (a ∷ b ∷ []) e = absurd (omega arith)
+word_pairs (a ∷ b ∷ c ∷ []) e = absurd (omega arith)
+word_pairs (a ∷ b ∷ c ∷ d ∷ x ∷ bs) e = absurd (omega arith)
 
 module _ (bs : List ℕ) (long : length bs ≡ 4) where
   pub no_high : None ≡ hex_pair (get_or bs 0 0 ∷ get_or bs 1 0 ∷ []) → None ≡ hex_word bs
-  no_high h = ap (λ p. pairs p (hex_pair (get_or bs 2 0 ∷ get_or bs 3 0 ∷ []))) h ∙ sym (word-pairs bs long)
+  no_high h = ap (λ p. pairs p (hex_pair (get_or bs 2 0 ∷ get_or bs 3 0 ∷ []))) h ∙ sym (word_pairs bs long)
 
   pub no_low : (h : ℕ) → Some h ≡ hex_pair (get_or bs 0 0 ∷ get_or bs 1 0 ∷ []) → None ≡ hex_pair (get_or bs 2 0 ∷ get_or bs 3 0 ∷ []) → None ≡ hex_word bs
-  no_low h p q = (λ i. pairs (p i) (q i)) ∙ sym (word-pairs bs long)
+  no_low h p q = (λ i. pairs (p i) (q i)) ∙ sym (word_pairs bs long)
 
   pub both : (h l : ℕ) → Some h ≡ hex_pair (get_or bs 0 0 ∷ get_or bs 1 0 ∷ []) → Some l ≡ hex_pair (get_or bs 2 0 ∷ get_or bs 3 0 ∷ []) → Some (h * 256 + l) ≡ hex_word bs
-  both h l p q = (λ i. pairs (p i) (q i)) ∙ sym (word-pairs bs long)
+  both h l p q = (λ i. pairs (p i) (q i)) ∙ sym (word_pairs bs long)

@@ -14,9 +14,9 @@ behind (suc n) [] = refl
 behind zero (b ∷ bs) = refl
 behind (suc n) (b ∷ bs) = behind n bs
 
-pub first-letter : (bs : List ℕ) → 0 < length bs → letters_in bs ≡ before (letter_in bs) (letters_in (drop (letter_size bs) bs))
-first-letter [] h = absurd (let z : ⊥ = omega arith in z)
-first-letter (b ∷ bs) h =
+pub first_letter : (bs : List ℕ) → 0 < length bs → letters_in bs ≡ before (letter_in bs) (letters_in (drop (letter_size bs) bs))
+first_letter [] h = absurd (let z : ⊥ = omega arith in z)
+first_letter (b ∷ bs) h =
     ap (before (letter_in (b ∷ bs)))
     (elim (is_plain b) as (λ t. letters_behind (cond t 1 4 - 1) bs ≡ letters_in (drop (cond t 1 4) (b ∷ bs))) [ true ↦ behind 0 bs | false ↦ behind 3 bs ])
 
@@ -30,10 +30,10 @@ onto text b (Some name) = ap Some (sym (append_assoc text (b ∷ []) name))
 
 pub grown-more : (text bs rest : List ℕ) (b : ℕ) → 0 < length bs → Some b ≡ letter_in bs → rest ≡ drop (letter_size bs) bs → grown text bs ≡ grown (text ++ b ∷ []) rest
 grown-more text bs rest b h is follows =
-    ap (option_map (λ name. text ++ name)) (first-letter bs h ∙ (λ i. before (sym is i) (letters_in (sym follows i)))) ∙ onto text b (letters_in rest)
+    ap (option_map (λ name. text ++ name)) (first_letter bs h ∙ (λ i. before (sym is i) (letters_in (sym follows i)))) ∙ onto text b (letters_in rest)
 
 pub grown-none : (text bs : List ℕ) → 0 < length bs → None ≡ letter_in bs → grown text bs ≡ None
-grown-none text bs h lacks = ap (option_map (λ name. text ++ name)) (first-letter bs h ∙ ap (λ o. before o (letters_in (drop (letter_size bs) bs))) (sym lacks))
+grown-none text bs h lacks = ap (option_map (λ name. text ++ name)) (first_letter bs h ∙ ap (λ o. before o (letters_in (drop (letter_size bs) bs))) (sym lacks))
 
 pub grown-all : (text bs : List ℕ) → bs ≡ [] → grown text bs ≡ Some text
 grown-all text bs e = ap (grown text) e ∙ ap Some (append-nil text)
@@ -47,8 +47,8 @@ no_name text bs e = at (letters_in bs) e
     at (Some name) e = absurd (let z : ◌≡◌ {A = ℕ} 0 1 = cc in omega arith)
 
 -- what was read between the quotes has been put behind the text
-pub name-added : (bs old new written : List ℕ) (start len : ℕ) → written_in bs ≡ Ok written → grown old written ≡ Some new → start ≡ length old → len ≡ length new - length old → NameAdded bs old new (record { start = start; len = len })
-name-added bs old new written start len is grew starts long = at (letters_in written) refl grew
+pub name_added : (bs old new written : List ℕ) (start len : ℕ) → written_in bs ≡ Ok written → grown old written ≡ Some new → start ≡ length old → len ≡ length new - length old → NameAdded bs old new (record { start = start; len = len })
+name_added bs old new written start len is grew starts long = at (letters_in written) refl grew
   where
     at : (o : Option (List ℕ)) → letters_in written ≡ o → option_map (λ name. old ++ name) o ≡ Some new → NameAdded bs old new (record { start = start; len = len })
     at None reads grew = absurd (let z : ◌≡◌ {A = ℕ} 0 1 = cc in omega arith)
@@ -62,6 +62,6 @@ name-added bs old new written start len is grew starts long = at (letters_in wri
           place = λ i. record { start = starts i; len = more i };
         }
 
-pub name-inside : (bs old new : List ℕ) (part : Part) → NameAdded bs old new part → part.start + part.len ≤ length new
-name-inside bs old new part added =
+pub name_inside : (bs old new : List ℕ) (part : Part) → NameAdded bs old new part → part.start + part.len ≤ length new
+name_inside bs old new part added =
     omega (arith, ap (λ p. p.start + p.len) added.place, ap length added.text, length-append old added.name)

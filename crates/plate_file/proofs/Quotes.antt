@@ -19,12 +19,12 @@ module _ (bs q r e : List ℕ) (opens : q ≡ past Blanks bs) (inside : r ≡ dr
       sym (ap opened opens) ∙ quote_first q some quote
       ∙ (λ i. closed (front Letters (sym inside i)) (past Letters (sym inside i))) ∙ ap (closed (front Letters r)) (sym ends)
 
-  pub behind-name : drop 1 e ≡ after_name bs
-  behind-name = ap (drop 1) (ends ∙ ap (past Letters) (inside ∙ ap (drop 1) opens))
+  pub behind_name : drop 1 e ≡ after_name bs
+  behind_name = ap (drop 1) (ends ∙ ap (past Letters) (inside ∙ ap (drop 1) opens))
 
-pub never-closed : (w e : List ℕ) → length e ≡ 0 → closed w e ≡ Err BadName
-never-closed w [] h = refl
-never-closed w (b ∷ e) h = absurd (let z : ⊥ = omega arith in z)
+pub never_closed : (w e : List ℕ) → length e ≡ 0 → closed w e ≡ Err BadName
+never_closed w [] h = refl
+never_closed w (b ∷ e) h = absurd (let z : ⊥ = omega arith in z)
 
 run_on : (bs : List ℕ) → goes_on bs ≡ not (eqb (prefix_len (in_run Field) bs) 0)
 run_on [] = refl

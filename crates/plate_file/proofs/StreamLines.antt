@@ -27,22 +27,22 @@ split (x ∷ xs) ys (w ∷ ws) e =
     (w ∷ rest.0, rest.1, ap (λ l. w ∷ l) rest.2, (λ i. here i ∷ rest.3 i), rest.4)
 
 -- fields that write words are read as these
-pub words-read : (n : ℕ) (fs : List (List ℕ)) (ws : List ℕ) → map hex_word fs ≡ map Some ws → length ws ≤ n → words_in n fs ≡ Ok ws
-words-read n [] [] e h = refl
-words-read n [] (w ∷ ws) e h = absurd (let z : ◌≡◌ {A = ℕ} 0 1 = cc in omega arith)
-words-read n (f ∷ fs) [] e h = absurd (let z : ◌≡◌ {A = ℕ} 0 1 = cc in omega arith)
-words-read zero (f ∷ fs) (w ∷ ws) e h = absurd (let z : ⊥ = omega arith in z)
-words-read (suc n) (f ∷ fs) (w ∷ ws) e h =
+pub words_read : (n : ℕ) (fs : List (List ℕ)) (ws : List ℕ) → map hex_word fs ≡ map Some ws → length ws ≤ n → words_in n fs ≡ Ok ws
+words_read n [] [] e h = refl
+words_read n [] (w ∷ ws) e h = absurd (let z : ◌≡◌ {A = ℕ} 0 1 = cc in omega arith)
+words_read n (f ∷ fs) [] e h = absurd (let z : ◌≡◌ {A = ℕ} 0 1 = cc in omega arith)
+words_read zero (f ∷ fs) (w ∷ ws) e h = absurd (let z : ⊥ = omega arith in z)
+words_read (suc n) (f ∷ fs) (w ∷ ws) e h =
     let here : hex_word f ≡ Some w = cc in
     let more : map hex_word fs ≡ map Some ws = cc in
     ap (λ o. and_then (found (no_word (meant keywords f)) o) (λ word. and_then (words_in n fs) (λ words. Ok (word ∷ words)))) here
-    ∙ ap (λ r. and_then r (λ words. Ok (w ∷ words))) (words-read n fs ws more (omega arith))
+    ∙ ap (λ r. and_then r (λ words. Ok (w ∷ words))) (words_read n fs ws more (omega arith))
 
 -- what is read are words that the fields write
-pub words-written : (n : ℕ) (fs : List (List ℕ)) (ws : List ℕ) → words_in n fs ≡ Ok ws → (map hex_word fs ≡ map Some ws) × (length ws ≤ n)
-words-written n [] ws e = let none : [] ≡ ws = cc in (ap (map Some) none, omega (arith, ap length none))
-words-written zero (f ∷ fs) ws e = absurd (not_ok e)
-words-written (suc n) (f ∷ fs) ws e = at (hex_word f) refl (words_in n fs) refl e (words-written n fs)
+pub words_written : (n : ℕ) (fs : List (List ℕ)) (ws : List ℕ) → words_in n fs ≡ Ok ws → (map hex_word fs ≡ map Some ws) × (length ws ≤ n)
+words_written n [] ws e = let none : [] ≡ ws = cc in (ap (map Some) none, omega (arith, ap length none))
+words_written zero (f ∷ fs) ws e = absurd (not_ok e)
+words_written (suc n) (f ∷ fs) ws e = at (hex_word f) refl (words_in n fs) refl e (words_written n fs)
   where
     at : (o : Option ℕ) → hex_word f ≡ o → (r : Result (List ℕ) Problem) → words_in n fs ≡ r → and_then (found (no_word (meant keywords f)) o) (λ word. and_then r (λ words. Ok (word ∷ words))) ≡ Ok ws → ((vs : List ℕ) → words_in n fs ≡ Ok vs → (map hex_word fs ≡ map Some vs) × (length vs ≤ n)) → (map hex_word (f ∷ fs) ≡ map Some ws) × (length ws ≤ suc n)
     at None is r was e more = absurd (not_ok e)
@@ -53,8 +53,8 @@ words-written (suc n) (f ∷ fs) ws e = at (hex_word f) refl (words_in n fs) ref
         ((λ i. is i ∷ rest.0 i) ∙ ap (map Some) whole, omega (arith, rest.1, ap length whole))
 
 -- a line that is not idle has a field
-some-field : (line : List ℕ) → is_idle line ≡ false → fields_of line ≡ field_in line ∷ fields_of (after_field line)
-some-field line e = first_field line (let some = eqb-false (length (field_in line)) 0 (or_parts (eqb (get_or line 0 0) 35) (eqb (length (field_in line)) 0) e).1 in omega arith)
+some_field : (line : List ℕ) → is_idle line ≡ false → fields_of line ≡ field_in line ∷ fields_of (after_field line)
+some_field line e = first_field line (let some = eqb-false (length (field_in line)) 0 (or_parts (eqb (get_or line 0 0) 35) (eqb (length (field_in line)) 0) e).1 in omega arith)
 
 -- what a line makes of a stream `at` its words so far and how many are to come; `past` is what one behind its last word makes of it
 abbrev pub stream_step : (List ℕ → ℕ → Progress) → (List ℕ → List ℕ → Result Progress Problem) → Bool → Bool → List ℕ → ℕ → List ℕ → Result Progress Problem
@@ -79,9 +79,9 @@ module _ (at : List ℕ → ℕ → Progress) (past : List ℕ → List ℕ → 
             let parts = split (fields_of line) (flat_map fields_said lines) ws (sym (saying line lines false idle) ∙ e) in
             let us = parts.0 in
             let vs = parts.1 in
-            let long-us : length (fields_of line) ≡ length us = sym (length-map (fields_of line) hex_word) ∙ ap length parts.3 ∙ length-map us (λ w. Some w) in
-            let some : n ≡ 0 → ⊥ = λ z. omega (arith, length-append us vs, ap length parts.2, ap length (some-field line idle)) in
-            let read = words-read n (fields_of line) us parts.3 (omega (arith, length-append us vs, ap length parts.2)) in (
+            let long_us : length (fields_of line) ≡ length us = sym (length-map (fields_of line) hex_word) ∙ ap length parts.3 ∙ length-map us (λ w. Some w) in
+            let some : n ≡ 0 → ⊥ = λ z. omega (arith, length-append us vs, ap length parts.2, ap length (some_field line idle)) in
+            let read = words_read n (fields_of line) us parts.3 (omega (arith, length-append us vs, ap length parts.2)) in (
               at (old ++ us) (n - length us),
               steps old n line ∙ (λ i. stream_step at past (idle i) (ne_eqb n 0 some i) old n line)
                   ∙ ap (λ r. and_then (and_then {B = Stream} r (λ words. Ok (record { words = old ++ words; left = n - length words }))) (λ stream. Ok (at stream.words stream.left))) read,
@@ -139,9 +139,9 @@ module _ (at : List ℕ → ℕ → Progress) (past : List ℕ → List ℕ → 
         }
 
     -- the words us of one line, and what follows from the further lines
-    both-more : (line : List ℕ) (lines : List (List ℕ)) (old us : List ℕ) (n : ℕ) (m t : Progress) → length us ≤ n → map hex_word (fields_said line) ≡ map Some us → at (old ++ us) (n - length us) ≡ m → Reads m lines t
+    both_more : (line : List ℕ) (lines : List (List ℕ)) (old us : List ℕ) (n : ℕ) (m t : Progress) → length us ≤ n → map hex_word (fields_said line) ≡ map Some us → at (old ++ us) (n - length us) ≡ m → Reads m lines t
         → (Reads (at (old ++ us) (n - length us)) lines t → Ends (old ++ us) (n - length us) lines t ⊎ Leaves (old ++ us) (n - length us) lines t) → Ends old n (line ∷ lines) t ⊎ Leaves old n (line ∷ lines) t
-    both-more line lines old us n m t few here leads r more =
+    both_more line lines old us n m t few here leads r more =
         elim (more (subst (λ m. Reads m lines t) (sym leads) r)) [ inl e ↦ inl (ends_more line lines old us n t few here e) | inr e ↦ inr (leaves_more line lines old us n t few here e) ]
 
     -- what has been read was written
@@ -153,7 +153,7 @@ module _ (at : List ℕ → ℕ → Progress) (past : List ℕ → List ℕ → 
         by : (b : Bool) → is_idle line ≡ b → (full : Bool) → eqb n 0 ≡ full → (o : Result (List ℕ) Problem) → words_in n (fields_of line) ≡ o → stream_step at past (is_idle line) (eqb n 0) old n line ≡ Ok r.0 → ((old : List ℕ) (n : ℕ) → Reads (at old n) lines t → Ends old n lines t ⊎ Leaves old n lines t) → Ends old n (line ∷ lines) t ⊎ Leaves old n (line ∷ lines) t
         by true idle full is o was e more =
             let stays : at old n ≡ r.0 = cc (sym (ap (λ b. stream_step at past b (eqb n 0) old n line) idle)) in
-            both-more line lines old [] n r.0 t (omega arith) (ap (λ b. map hex_word (cond b [] (fields_of line))) idle)
+            both_more line lines old [] n r.0 t (omega arith) (ap (λ b. map hex_word (cond b [] (fields_of line))) idle)
             ((λ i. at (append-nil old i) ((let same : n - 0 ≡ n = omega arith in same) i)) ∙ stays) r.2 (more (old ++ []) (n - 0))
         by false idle true is o was e more =
             let none = eqb-true n 0 is in
@@ -182,5 +182,5 @@ module _ (at : List ℕ → ℕ → Progress) (past : List ℕ → List ℕ → 
             sym ((λ i. stream_step at past (idle i) (is i) old n line)
             ∙ ap (λ r. and_then (and_then {B = Stream} r (λ words. Ok (record { words = old ++ words; left = n - length words }))) (λ stream. Ok (at stream.words stream.left))) was) ∙ e
             in
-            let wrote = words-written n (fields_of line) us was in
-            both-more line lines old us n r.0 t wrote.1 (ap (λ b. map hex_word (cond b [] (fields_of line))) idle ∙ wrote.0) (let leads : at (old ++ us) (n - length us) ≡ r.0 = cc in leads) r.2 (more (old ++ us) (n - length us))
+            let wrote = words_written n (fields_of line) us was in
+            both_more line lines old us n r.0 t wrote.1 (ap (λ b. map hex_word (cond b [] (fields_of line))) idle ∙ wrote.0) (let leads : at (old ++ us) (n - length us) ≡ r.0 = cc in leads) r.2 (more (old ++ us) (n - length us))

@@ -24,19 +24,19 @@ use Rattle.plate_file.proofs.StreamLines.{stream_read, stream_written, Ends, Lea
 abbrev head_step : Heading → Bool → Option Keyword → List ℕ → Result Progress Problem
 head_step h idle word bs = cond idle (Ok (headed h)) (after_heading h word bs)
 
-adds-by : (h next : Heading) (idle : Bool) (word : Option Keyword) (bs : List ℕ) → MatchBool idle (h ≡ next) (AddsBy h word bs next) → head_step h idle word bs ≡ Ok (headed next)
-adds-by h next true word bs e = ap (λ h. Ok (headed h)) e
-adds-by h next false (Some Rectangle) bs e = ap (λ r. and_then r (λ h. Ok (headed h))) e
-adds-by h next false (Some Channel) bs e = ap (λ r. and_then r (λ h. Ok (headed h))) e
-adds-by h next false (Some Rule) bs e = ap (λ r. and_then r (λ h. Ok (headed h))) e
-adds-by h next false (Some Dc) bs e = absurd e
-adds-by h next false (Some Ac) bs e = absurd e
-adds-by h next false None bs e = absurd e
+adds_by : (h next : Heading) (idle : Bool) (word : Option Keyword) (bs : List ℕ) → MatchBool idle (h ≡ next) (AddsBy h word bs next) → head_step h idle word bs ≡ Ok (headed next)
+adds_by h next true word bs e = ap (λ h. Ok (headed h)) e
+adds_by h next false (Some Rectangle) bs e = ap (λ r. and_then r (λ h. Ok (headed h))) e
+adds_by h next false (Some Channel) bs e = ap (λ r. and_then r (λ h. Ok (headed h))) e
+adds_by h next false (Some Rule) bs e = ap (λ r. and_then r (λ h. Ok (headed h))) e
+adds_by h next false (Some Dc) bs e = absurd e
+adds_by h next false (Some Ac) bs e = absurd e
+adds_by h next false None bs e = absurd e
 
 all_read : (h next : Heading) (lines : List (List ℕ)) → AllAdd h lines next → Reads (headed h) lines (headed next)
 all_read h next [] e = ap headed e
 all_read h next (line ∷ lines) e =
-    (headed e.0, adds-by h e.0 (is_idle line) (meant keywords (field_in line)) (after_field line) e.1, all_read e.0 next lines e.2)
+    (headed e.0, adds_by h e.0 (is_idle line) (meant keywords (field_in line)) (after_field line) e.1, all_read e.0 next lines e.2)
 
 -- what a line before the streams leads to: more of the same, or the dc stream
 data HeadNext (h : Heading) (idle : Bool) (word : Option Keyword) (bs : List ℕ) (m : Progress) : Type 0 where
@@ -47,14 +47,14 @@ added : (r : Result Heading Problem) (m : Progress) → and_then r (λ h. Ok (he
 added (Ok next) m e = (next, refl, (cc))
 added (Err p) m e = absurd (not_ok e)
 
-head-next : (h : Heading) (idle : Bool) (word : Option Keyword) (bs : List ℕ) (m : Progress) → head_step h idle word bs ≡ Ok m → HeadNext h idle word bs m
-head-next h true word bs m e = adds h refl (let same : headed h ≡ m = cc in same)
-head-next h false (Some Rectangle) bs m e = let a = added (with_rectangle h bs) m e in adds a.0 a.1 a.2
-head-next h false (Some Channel) bs m e = let a = added (with_channel h bs) m e in adds a.0 a.1 a.2
-head-next h false (Some Rule) bs m e = let a = added (with_rule h bs) m e in adds a.0 a.1 a.2
-head-next h false (Some Dc) bs m e = begins refl refl e
-head-next h false (Some Ac) bs m e = absurd (not_ok e)
-head-next h false None bs m e = absurd (not_ok e)
+head_next : (h : Heading) (idle : Bool) (word : Option Keyword) (bs : List ℕ) (m : Progress) → head_step h idle word bs ≡ Ok m → HeadNext h idle word bs m
+head_next h true word bs m e = adds h refl (let same : headed h ≡ m = cc in same)
+head_next h false (Some Rectangle) bs m e = let a = added (with_rectangle h bs) m e in adds a.0 a.1 a.2
+head_next h false (Some Channel) bs m e = let a = added (with_channel h bs) m e in adds a.0 a.1 a.2
+head_next h false (Some Rule) bs m e = let a = added (with_rule h bs) m e in adds a.0 a.1 a.2
+head_next h false (Some Dc) bs m e = begins refl refl e
+head_next h false (Some Ac) bs m e = absurd (not_ok e)
+head_next h false None bs m e = absurd (not_ok e)
 
 -- the lines before the streams, and the line that begins the dc stream
 record Headed (h : Heading) (lines : List (List ℕ)) (said : Contents) : Type 0 where
@@ -70,9 +70,9 @@ record Headed (h : Heading) (lines : List (List ℕ)) (said : Contents) : Type 0
   goes : begun next next.rectangle (after_field dc_line) ≡ Ok m
   then : Reads m rest (in_ac said 0)
 
-head-written : (h : Heading) (lines : List (List ℕ)) (said : Contents) → Reads (headed h) lines (in_ac said 0) → Headed h lines said
-head-written h [] said r = absurd (let z : ◌≡◌ {A = ℕ} 0 1 = cc in omega arith)
-head-written h (line ∷ lines) said r = by (head-next h (is_idle line) (meant keywords (field_in line)) (after_field line) r.0 r.1) (λ next. head-written next lines said)
+head_written : (h : Heading) (lines : List (List ℕ)) (said : Contents) → Reads (headed h) lines (in_ac said 0) → Headed h lines said
+head_written h [] said r = absurd (let z : ◌≡◌ {A = ℕ} 0 1 = cc in omega arith)
+head_written h (line ∷ lines) said r = by (head_next h (is_idle line) (meant keywords (field_in line)) (after_field line) r.0 r.1) (λ next. head_written next lines said)
   where
     by : HeadNext h (is_idle line) (meant keywords (field_in line)) (after_field line) r.0 → ((next : Heading) → Reads (headed next) lines (in_ac said 0) → Headed next lines said) → Headed h (line ∷ lines) said
     by (adds next e leads) more =
@@ -107,22 +107,22 @@ abbrev past_ac : List ℕ → List ℕ → Result Progress Problem
 past_ac ws line = Err (after_ac (meant keywords (field_in line)))
 
 -- the line that begins the dc stream, and the one that begins the ac stream
-dc-begins : (h : Heading) (bounds : Option IntegerBounds) (bs : List ℕ) (m : Progress) → begun h bounds bs ≡ Ok m
+dc_begins : (h : Heading) (bounds : Option IntegerBounds) (bs : List ℕ) (m : Progress) → begun h bounds bs ≡ Ok m
     → (b : IntegerBounds) × (n : ℕ) × (bounds ≡ Some b) × (count_in bs ≡ Ok n) × (m ≡ in_dc (started h b) n)
-dc-begins h None bs m e = absurd (not_ok e)
-dc-begins h (Some b) bs m e = at (count_in bs) refl e
+dc_begins h None bs m e = absurd (not_ok e)
+dc_begins h (Some b) bs m e = at (count_in bs) refl e
   where
     at : (r : Result ℕ Problem) → count_in bs ≡ r → and_then r (λ n. Ok (in_dc (started h b) n)) ≡ Ok m → (c : IntegerBounds) × (n : ℕ) × (Some b ≡ Some c) × (count_in bs ≡ Ok n) × (m ≡ in_dc (started h c) n)
     at (Err p) is e = absurd (not_ok e)
     at (Ok n) is e = (b, n, refl, is, (cc))
 
-ac-begins : (c : Contents) (word : Option Keyword) (bs : List ℕ) (m : Progress) → after_dc c word bs ≡ Ok m → (n : ℕ) × (word ≡ Some Ac) × (count_in bs ≡ Ok n) × (m ≡ in_ac c n)
-ac-begins c (Some Rectangle) bs m e = absurd (not_ok e)
-ac-begins c (Some Channel) bs m e = absurd (not_ok e)
-ac-begins c (Some Rule) bs m e = absurd (not_ok e)
-ac-begins c (Some Dc) bs m e = absurd (not_ok e)
-ac-begins c None bs m e = absurd (not_ok e)
-ac-begins c (Some Ac) bs m e = at (count_in bs) refl e
+ac_begins : (c : Contents) (word : Option Keyword) (bs : List ℕ) (m : Progress) → after_dc c word bs ≡ Ok m → (n : ℕ) × (word ≡ Some Ac) × (count_in bs ≡ Ok n) × (m ≡ in_ac c n)
+ac_begins c (Some Rectangle) bs m e = absurd (not_ok e)
+ac_begins c (Some Channel) bs m e = absurd (not_ok e)
+ac_begins c (Some Rule) bs m e = absurd (not_ok e)
+ac_begins c (Some Dc) bs m e = absurd (not_ok e)
+ac_begins c None bs m e = absurd (not_ok e)
+ac_begins c (Some Ac) bs m e = at (count_in bs) refl e
   where
     at : (r : Result ℕ Problem) → count_in bs ≡ r → and_then r (λ n. Ok (in_ac c n)) ≡ Ok m → (n : ℕ) × (Some Ac ≡ Some Ac) × (count_in bs ≡ Ok n) × (m ≡ in_ac c n)
     at (Err p) is e = absurd (not_ok e)
@@ -135,8 +135,8 @@ record LastStream (c : Contents) (n : ℕ) (lines : List (List ℕ)) (said : Con
   each : map hex_word (flat_map fields_said lines) ≡ map Some ws
   whole : said ≡ with_ac c (c.ac ++ ws)
 
-ac-written : (c : Contents) (n : ℕ) (lines : List (List ℕ)) (said : Contents) → Reads (in_ac c n) lines (in_ac said 0) → LastStream c n lines said
-ac-written c n lines said r = by (stream_written (at_ac c) past_ac (λ old n line. refl) lines c.ac n (in_ac said 0) r)
+ac_written : (c : Contents) (n : ℕ) (lines : List (List ℕ)) (said : Contents) → Reads (in_ac c n) lines (in_ac said 0) → LastStream c n lines said
+ac_written c n lines said r = by (stream_written (at_ac c) past_ac (λ old n line. refl) lines c.ac n (in_ac said 0) r)
   where
     by : Ends (at_ac c) past_ac (λ old n line. refl) c.ac n lines (in_ac said 0) ⊎ Leaves (at_ac c) past_ac (λ old n line. refl) c.ac n lines (in_ac said 0) → LastStream c n lines said
     by (inl e) =
@@ -161,13 +161,13 @@ record FirstStream (c : Contents) (n : ℕ) (lines : List (List ℕ)) (said : Co
   count : count_in (after_field ac_line) ≡ Ok more
   last : LastStream (with_dc c (c.dc ++ ws)) more rest said
 
-dc-written : (c : Contents) (n : ℕ) (lines : List (List ℕ)) (said : Contents) → Reads (in_dc c n) lines (in_ac said 0) → FirstStream c n lines said
-dc-written c n lines said r = by (stream_written (at_dc c) (past_dc c) (λ old n line. refl) lines c.dc n (in_ac said 0) r)
+dc_written : (c : Contents) (n : ℕ) (lines : List (List ℕ)) (said : Contents) → Reads (in_dc c n) lines (in_ac said 0) → FirstStream c n lines said
+dc_written c n lines said r = by (stream_written (at_dc c) (past_dc c) (λ old n line. refl) lines c.dc n (in_ac said 0) r)
   where
     by : Ends (at_dc c) (past_dc c) (λ old n line. refl) c.dc n lines (in_ac said 0) ⊎ Leaves (at_dc c) (past_dc c) (λ old n line. refl) c.dc n lines (in_ac said 0) → FirstStream c n lines said
     by (inl e) = absurd (let state = e.state in let z : ◌≡◌ {A = ℕ} 0 1 = cc in omega arith)
     by (inr e) =
-        let begin = ac-begins (with_dc c (c.dc ++ e.ws)) (meant keywords (field_in e.next)) (after_field e.next) e.m e.goes in
+        let begin = ac_begins (with_dc c (c.dc ++ e.ws)) (meant keywords (field_in e.next)) (after_field e.next) e.m e.goes in
         record {
           own = e.own;
           ac_line = e.next;
@@ -180,7 +180,7 @@ dc-written c n lines said r = by (stream_written (at_dc c) (past_dc c) (λ old n
           says = e.says;
           begins = begin.1;
           count = begin.2;
-          last = ac-written (with_dc c (c.dc ++ e.ws)) begin.0 e.rest said (subst (λ m. Reads m e.rest (in_ac said 0)) begin.3 e.then);
+          last = ac_written (with_dc c (c.dc ++ e.ws)) begin.0 e.rest said (subst (λ m. Reads m e.rest (in_ac said 0)) begin.3 e.then);
         }
 
 -- what a file is read as, it writes
@@ -192,11 +192,11 @@ lines_written file said (first ∷ lines) is r = by (first_in first) refl r.1
     by (Err p) opens e = absurd (not_ok e)
     by (Ok u) opens e =
         let starts : headed no_heading ≡ r.0 = cc in
-        let top = head-written no_heading lines said (subst (λ m. Reads m lines (in_ac said 0)) (sym starts) r.2) in
+        let top = head_written no_heading lines said (subst (λ m. Reads m lines (in_ac said 0)) (sym starts) r.2) in
         let h = top.next in
-        let begin = dc-begins h h.rectangle (after_field top.dc_line) top.m top.goes in
+        let begin = dc_begins h h.rectangle (after_field top.dc_line) top.m top.goes in
         let base = started h begin.0 in
-        let dc = dc-written base begin.1 top.rest said (subst (λ m. Reads m top.rest (in_ac said 0)) begin.4 top.then) in
+        let dc = dc_written base begin.1 top.rest said (subst (λ m. Reads m top.rest (in_ac said 0)) begin.4 top.then) in
         let ac = dc.last in
         subst (Writes file) (sym ac.whole)
         (record {

@@ -1,6 +1,6 @@
 // What one line more makes of a draft.
-ghost use Rattle.std.specs.Prelude.{◌≡◌, Ok, Err, MatchResult};
-ghost use Rattle.plate_file.specs.Reading.{unread};
+ghost use Rattle.std.specs.Prelude.{◌≡◌, ◌≤◌, Ok, Err, MatchResult};
+ghost use Rattle.plate_file.specs.Reading.{unread, ahead};
 ghost use Rattle.plate_file.specs.File.{contents, progress, headed, in_dc, in_ac, first_in, is_idle, begun, line_after, Leads, finished};
 ghost use Rattle.plate_file.specs.Headings.{heading};
 
@@ -36,7 +36,8 @@ fn is_idle(line: &[u8]) -> bool
 
 // Behind the word `dc`.
 fn begin(heap: Global, header: Header, reader: &mut Reader<'_>) -> Result<Draft, Problem>
-    ensures { Leads (begun (heading header) header.rectangle (unread reader.old)) result }
+    ensures len { ahead reader.new ≤ ahead reader.old }
+    ensures exact { Leads (begun (heading header) header.rectangle (unread reader.old)) result }
 {
     let Header {
         text,

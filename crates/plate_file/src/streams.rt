@@ -39,7 +39,8 @@ pub(crate) fn add_words(
     words: &mut Vec<u16>,
     to_come: usize,
 ) -> Result<usize, Problem>
-    ensures { MatchResult result (λ left. longer words.old.items to_come (fields_of (unread reader.old)) ≡ Ok (record { words = words.new.items; left = left })) (Fault (longer words.old.items to_come (fields_of (unread reader.old)))) }
+    ensures len { ahead reader.new ≤ ahead reader.old }
+    ensures exact { MatchResult result (λ left. longer words.old.items to_come (fields_of (unread reader.old)) ≡ Ok (record { words = words.new.items; left = left })) (Fault (longer words.old.items to_come (fields_of (unread reader.old)))) }
 {
     let mut left = to_come;
     while let Some(field) = reader.next_field() {

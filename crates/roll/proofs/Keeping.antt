@@ -72,12 +72,12 @@ module _ (text : List ℕ) (chs : List ChannelDescription) (rules : List Rule) w
   built : (prefix : List ℕ) (t : Triplet) → triplet_of text chs rules prefix ≡ Some t → Built prefix t
   built prefix t e =
       let f = formed goes (holder text chs rules prefix 0) (holder text chs rules prefix 1) (holder text chs rules prefix 2) t e in
-      record { in_its_slot = by-slot (holds prefix 0 _ f.first) (holds prefix 1 _ f.second) (holds prefix 2 _ f.third); passes = f.passes }
+      record { in_its_slot = by_slot (holds prefix 0 _ f.first) (holds prefix 1 _ f.second) (holds prefix 2 _ f.third); passes = f.passes }
     where
-      by-slot : Holds prefix t.r → Holds prefix t.g → Holds prefix t.b → (slot : ℕ) → Holds prefix (held t slot)
-      by-slot x y z zero = x
-      by-slot x y z (suc zero) = y
-      by-slot x y z (suc (suc slot)) = z
+      by_slot : Holds prefix t.r → Holds prefix t.g → Holds prefix t.b → (slot : ℕ) → Holds prefix (held t slot)
+      by_slot x y z zero = x
+      by_slot x y z (suc zero) = y
+      by_slot x y z (suc (suc slot)) = z
 
   -- triplets of two prefixes share no channel
   abbrev Strange : Triplet → Triplet → Type 0
@@ -94,26 +94,26 @@ module _ (text : List ℕ) (chs : List ChannelDescription) (rules : List Rule) w
   differ : (t : Triplet) → (Twice t t.r → ⊥) → (Twice t t.g → ⊥) → Differ t
   differ t x y = ((λ e. x (inl (refl, sym e))), (λ e. x (inr (inl (refl, sym e)))), (λ e. y (inr (inr (refl, sym e)))))
 
-  own-slot : (t : Triplet) → Differ t → (s v : ℕ) → s < 3 → v < 3 → held t s ≡ held t v → s ≡ v
-  own-slot t d zero zero l m e = refl
-  own-slot t d zero (suc zero) l m e = absurd (d.0 e)
-  own-slot t d zero (suc (suc v)) l m e = absurd (d.1 e)
-  own-slot t d (suc zero) zero l m e = absurd (d.0 (sym e))
-  own-slot t d (suc zero) (suc zero) l m e = refl
-  own-slot t d (suc zero) (suc (suc v)) l m e = absurd (d.2 e)
-  own-slot t d (suc (suc s)) zero l m e = absurd (d.1 (sym e))
-  own-slot t d (suc (suc s)) (suc zero) l m e = absurd (d.2 (sym e))
-  own-slot t d (suc (suc s)) (suc (suc v)) l m e = omega arith
+  own_slot : (t : Triplet) → Differ t → (s v : ℕ) → s < 3 → v < 3 → held t s ≡ held t v → s ≡ v
+  own_slot t d zero zero l m e = refl
+  own_slot t d zero (suc zero) l m e = absurd (d.0 e)
+  own_slot t d zero (suc (suc v)) l m e = absurd (d.1 e)
+  own_slot t d (suc zero) zero l m e = absurd (d.0 (sym e))
+  own_slot t d (suc zero) (suc zero) l m e = refl
+  own_slot t d (suc zero) (suc (suc v)) l m e = absurd (d.2 e)
+  own_slot t d (suc (suc s)) zero l m e = absurd (d.1 (sym e))
+  own_slot t d (suc (suc s)) (suc zero) l m e = absurd (d.2 (sym e))
+  own_slot t d (suc (suc s)) (suc (suc v)) l m e = omega arith
 
   abbrev Good : Triplet → Type 0
   Good t = (p : List ℕ) × (triplet_of text chs rules p ≡ Some t)
 
-  all-unit : {X : Type 0} (xs : List X) → All (λ _. Unit {0}) xs
-  all-unit [] = tt
-  all-unit (x ∷ xs) = (tt, all-unit xs)
+  all_unit : {X : Type 0} (xs : List X) → All (λ _. Unit {0}) xs
+  all_unit [] = tt
+  all_unit (x ∷ xs) = (tt, all_unit xs)
 
   good : All Good (triplets_in text chs rules)
-  good = all_found (triplet_of text chs rules) (λ _. Unit {0}) Good (λ p t _ e. (p, e)) (prefixes_in text chs) (all-unit (prefixes_in text chs))
+  good = all_found (triplet_of text chs rules) (λ _. Unit {0}) Good (λ p t _ e. (p, e)) (prefixes_in text chs) (all_unit (prefixes_in text chs))
 
   strangers : Pairwise Strange (triplets_in text chs rules)
   strangers = pairwise_found (triplet_of text chs rules) (λ p q. bytes_eq p q ≡ false) Strange (λ p q t u. strange p q t u) (prefixes_in text chs) (pairwise_distinct bytes_eq (map (prefix_in text) chs))
@@ -130,7 +130,7 @@ module _ (text : List ℕ) (chs : List ChannelDescription) (rules : List Rule) w
             let b = built g.0 t g.1 in
             let single : (s : ℕ) → Twice t (held t s) → ⊥ = λ s w. once (held t s) (b.in_its_slot s).within (j, p.here.listed, w) in
             let same : held t p.here.slot ≡ held t p.there.slot = p.same ∙ ap (λ n. held (get_or ts n no_triplet) p.there.slot) (sym e) in
-            (e, own-slot t (differ t (single 0) (single 1)) p.here.slot p.there.slot p.here.small p.there.small same))
+            (e, own_slot t (differ t (single 0) (single 1)) p.here.slot p.there.slot p.here.small p.there.small same))
         | inr e ↦ elim e [
           | inl l ↦ absurd (pairwise_at Strange ts j k no_triplet l p.there.listed strangers p.here.slot p.there.slot p.same)
           | inr l ↦ absurd (pairwise_at Strange ts k j no_triplet l p.here.listed strangers p.there.slot p.here.slot (sym p.same))
@@ -168,14 +168,14 @@ module _ (text : List ℕ) (chs : List ChannelDescription) (rules : List Rule) w
         let a = get_or chs t.r no_channel in
         let v = five (lossy_at text chs rules t.r) (lossy_at text chs rules t.g) (lossy_at text chs rules t.b) (same_steps a (get_or chs t.g no_channel)) (same_steps a (get_or chs t.b no_channel)) b.passes in
         let first = (b.in_its_slot 0).within in
-        by-slot s (alike_at t t.r first first v.0 (refl, refl))
+        by_slot s (alike_at t t.r first first v.0 (refl, refl))
         (alike_at t t.g (b.in_its_slot 1).within first v.1 (steps a (get_or chs t.g no_channel) v.3))
         (alike_at t t.b (b.in_its_slot 2).within first v.2 (steps a (get_or chs t.b no_channel) v.4))
       where
-        by-slot : (k : ℕ) → Alike infos t t.r → Alike infos t t.g → Alike infos t t.b → Alike infos t (held t k)
-        by-slot zero x y z = x
-        by-slot (suc zero) x y z = y
-        by-slot (suc (suc k)) x y z = z
+        by_slot : (k : ℕ) → Alike infos t t.r → Alike infos t t.g → Alike infos t t.b → Alike infos t (held t k)
+        by_slot zero x y z = x
+        by_slot (suc zero) x y z = y
+        by_slot (suc (suc k)) x y z = z
 
     pub members : Members infos (triplets_in text chs rules)
     members p =

@@ -34,27 +34,27 @@ module _ (b : ℕ) (bs : List ℕ) where
   dots n h d zero e = h (omega arith)
   dots n h d (suc k) e = d k (omega arith)
 
-  split-more : (n : ℕ) (x y : Bool) → eqb n 0 ≡ x → eqb b 46 ≡ y → Splits bs n → Splits (b ∷ bs) (cond x (cond y 1 0) (suc n))
-  split-more n true true p q h =
+  split_more : (n : ℕ) (x y : Bool) → eqb n 0 ≡ x → eqb b 46 ≡ y → Splits bs n → Splits (b ∷ bs) (cond x (cond y 1 0) (suc n))
+  split_more n true true p q h =
       let z : n ≡ 0 = true-eqb n 0 (sym p) in
       record {
         within = omega arith;
         plain = later 0 (subst (λ m. (k : ℕ) → m ≤ k → k < length bs → get_or bs k 0 ≡ 46 → ⊥) z h.plain);
         dotted = dots 0 (λ _. true-eqb b 46 (sym q)) (λ k e. absurd (let w : ⊥ = omega arith in w));
       }
-  split-more n true false p q h =
+  split_more n true false p q h =
       let z : n ≡ 0 = true-eqb n 0 (sym p) in
       record {
         within = omega arith;
         plain = all (λ e. nope (eqb b 46) (eq-eqb b 46 e) q) (subst (λ m. (k : ℕ) → m ≤ k → k < length bs → get_or bs k 0 ≡ 46 → ⊥) z h.plain);
         dotted = λ k e. absurd (let w : ⊥ = omega arith in w);
       }
-  split-more n false y p q h =
+  split_more n false y p q h =
       record { within = omega (arith, h.within); plain = later n h.plain; dotted = dots n (λ z. absurd (nope (eqb n 0) (eq-eqb n 0 z) p)) h.dotted }
 
 splits : (name : List ℕ) → Splits name (cut name)
 splits [] = record { within = omega arith; plain = λ k l u e. absurd (let z : ⊥ = omega arith in z); dotted = λ k e. absurd (let z : ⊥ = omega arith in z) }
-splits (b ∷ bs) = split-more b bs (cut bs) (eqb (cut bs) 0) (eqb b 46) refl refl (splits bs)
+splits (b ∷ bs) = split_more b bs (cut bs) (eqb (cut bs) 0) (eqb b 46) refl refl (splits bs)
 
 -- matching
 alike : {P : Type 0} → P → Decides true P
@@ -63,34 +63,34 @@ alike p = ((λ e. p), (λ h. refl))
 unlike : {P : Type 0} → (P → ⊥) → Decides false P
 unlike n = ((λ e. absurd (nope false e refl)), (λ h. absurd (n h)))
 
-same-type : (t u : SampleType) → Decides (same_type t u) (t ≡ u)
-same-type U32 U32 = alike refl
-same-type U32 F16 = unlike (λ e. let z : ◌≡◌ {A = ℕ} 0 1 = cc in omega arith)
-same-type U32 F32 = unlike (λ e. let z : ◌≡◌ {A = ℕ} 0 1 = cc in omega arith)
-same-type F16 U32 = unlike (λ e. let z : ◌≡◌ {A = ℕ} 0 1 = cc in omega arith)
-same-type F16 F16 = alike refl
-same-type F16 F32 = unlike (λ e. let z : ◌≡◌ {A = ℕ} 0 1 = cc in omega arith)
-same-type F32 U32 = unlike (λ e. let z : ◌≡◌ {A = ℕ} 0 1 = cc in omega arith)
-same-type F32 F16 = unlike (λ e. let z : ◌≡◌ {A = ℕ} 0 1 = cc in omega arith)
-same-type F32 F32 = alike refl
+same_type-law : (t u : SampleType) → Decides (same_type t u) (t ≡ u)
+same_type-law U32 U32 = alike refl
+same_type-law U32 F16 = unlike (λ e. let z : ◌≡◌ {A = ℕ} 0 1 = cc in omega arith)
+same_type-law U32 F32 = unlike (λ e. let z : ◌≡◌ {A = ℕ} 0 1 = cc in omega arith)
+same_type-law F16 U32 = unlike (λ e. let z : ◌≡◌ {A = ℕ} 0 1 = cc in omega arith)
+same_type-law F16 F16 = alike refl
+same_type-law F16 F32 = unlike (λ e. let z : ◌≡◌ {A = ℕ} 0 1 = cc in omega arith)
+same_type-law F32 U32 = unlike (λ e. let z : ◌≡◌ {A = ℕ} 0 1 = cc in omega arith)
+same_type-law F32 F16 = unlike (λ e. let z : ◌≡◌ {A = ℕ} 0 1 = cc in omega arith)
+same_type-law F32 F32 = alike refl
 
-both-decide : {P Q : Type 0} (x y : Bool) → Decides x P → Decides y Q → Decides (x && y) (P × Q)
-both-decide true y p q = ((λ e. (p.0 refl, q.0 e)), (λ h. q.1 h.1))
-both-decide false y p q = ((λ e. absurd (nope false e refl)), (λ h. p.1 h.0))
+both_decide : {P Q : Type 0} (x y : Bool) → Decides x P → Decides y Q → Decides (x && y) (P × Q)
+both_decide true y p q = ((λ e. (p.0 refl, q.0 e)), (λ h. q.1 h.1))
+both_decide false y p q = ((λ e. absurd (nope false e refl)), (λ h. p.1 h.0))
 
-same-name : (ignore : Bool) (a b : List ℕ) → Decides (same_name ignore a b) (cond ignore (map to_ascii_lowercase a ≡ map to_ascii_lowercase b) (a ≡ b))
-same-name true a b = bytes_eq-Decides (map to_ascii_lowercase a) (map to_ascii_lowercase b)
-same-name false a b = bytes_eq-Decides a b
+same_name-law : (ignore : Bool) (a b : List ℕ) → Decides (same_name ignore a b) (cond ignore (map to_ascii_lowercase a ≡ map to_ascii_lowercase b) (a ≡ b))
+same_name-law true a b = bytes_eq-Decides (map to_ascii_lowercase a) (map to_ascii_lowercase b)
+same_name-law false a b = bytes_eq-Decides a b
 
 matches : (text suffix : List ℕ) (type : SampleType) (r : Rule) → Decides (matched text suffix type r) (Equal text suffix type r)
 matches text suffix type r =
-    both-decide (same_type r.sample_type type) (same_name r.case_insensitive suffix (bytes text r.suffix))
-    (same-type r.sample_type type) (same-name r.case_insensitive suffix (bytes text r.suffix))
+    both_decide (same_type r.sample_type type) (same_name r.case_insensitive suffix (bytes text r.suffix))
+    (same_type-law r.sample_type type) (same_name-law r.case_insensitive suffix (bytes text r.suffix))
 
 -- a last place under a test is one under what the test decides
-last-decided : (n : ℕ) (P Q : ℕ → Type 0) → ((i : ℕ) → P i → Q i) → ((i : ℕ) → Q i → P i) → (o : Option ℕ) → LastAt n P o → LastAt n Q o
-last-decided n P Q f g None l = λ i h q. l i h (g i q)
-last-decided n P Q f g (Some k) l = (l.0, f k l.1, λ i h u q. l.2 i h u (g i q))
+last_decided : (n : ℕ) (P Q : ℕ → Type 0) → ((i : ℕ) → P i → Q i) → ((i : ℕ) → Q i → P i) → (o : Option ℕ) → LastAt n P o → LastAt n Q o
+last_decided n P Q f g None l = λ i h q. l i h (g i q)
+last_decided n P Q f g (Some k) l = (l.0, f k l.1, λ i h u q. l.2 i h u (g i q))
 
 some-index : {X : Type 0} (test : X → Bool) (xs : List X) (d : X) → some test xs ≡ true → (k : ℕ) × (k < length xs) × (test (get_or xs k d) ≡ true)
 some-index test [] d e = absurd (nope false e refl)
@@ -101,22 +101,22 @@ some-index test (x ∷ xs) d e = at (test x) refl e (some-index test xs d)
     at true p q h = (0, omega arith, p)
     at false p q h = let r = h q in (suc r.0, omega (arith, r.1), r.2)
 
-slot-decides : (slot : ℕ) (o : Option ℕ) → Decides (is_slot slot o) (o ≡ Some slot)
-slot-decides slot None = unlike (λ e. let z : ◌≡◌ {A = ℕ} 0 1 = cc in omega arith)
-slot-decides slot (Some own) = ((λ e. ap Some (true-eqb own slot (sym e))), (λ e. eq-eqb own slot (let z : own ≡ slot = cc in z)))
+slot_decides : (slot : ℕ) (o : Option ℕ) → Decides (is_slot slot o) (o ≡ Some slot)
+slot_decides slot None = unlike (λ e. let z : ◌≡◌ {A = ℕ} 0 1 = cc in omega arith)
+slot_decides slot (Some own) = ((λ e. ap Some (true-eqb own slot (sym e))), (λ e. eq-eqb own slot (let z : own ≡ slot = cc in z)))
 
 module _ (text : List ℕ) (rules : List Rule) (prefix : List ℕ) (slot : ℕ) (c : ChannelDescription) where
   abbrev test : Rule → Bool
   test r = is_for text c r && is_slot slot r.csc_index
 
-  rule-decides : (r : Rule) → Decides (test r) ((is_for text c r ≡ true) × (r.csc_index ≡ Some slot))
-  rule-decides r = both-decide (is_for text c r) (is_slot slot r.csc_index) ((λ e. e), (λ e. e)) (slot-decides slot r.csc_index)
+  rule_decides : (r : Rule) → Decides (test r) ((is_for text c r ≡ true) × (r.csc_index ≡ Some slot))
+  rule_decides r = both_decide (is_for text c r) (is_slot slot r.csc_index) ((λ e. e), (λ e. e)) (slot_decides slot r.csc_index)
 
   fills : Decides (filled_by text rules prefix slot c) (Fills text rules prefix slot c)
   fills =
-      both-decide (bytes_eq (prefix_in text c) prefix) (writes text rules slot c) (bytes_eq-Decides (prefix_in text c) prefix) (
-        (λ e. let r = some-index test rules no_rule e in let d = (rule-decides (get_or rules r.0 no_rule)).0 r.2 in (r.0, r.1, d.0, d.1)),
-        (λ h. some_at test rules h.0 no_rule h.1 ((rule-decides (get_or rules h.0 no_rule)).1 (h.2, h.3))),
+      both_decide (bytes_eq (prefix_in text c) prefix) (writes text rules slot c) (bytes_eq-Decides (prefix_in text c) prefix) (
+        (λ e. let r = some-index test rules no_rule e in let d = (rule_decides (get_or rules r.0 no_rule)).0 r.2 in (r.0, r.1, d.0, d.1)),
+        (λ h. some_at test rules h.0 no_rule h.1 ((rule_decides (get_or rules h.0 no_rule)).1 (h.2, h.3))),
       )
 
 -- first appearance
@@ -155,8 +155,8 @@ in_order (x ∷ xs) = (All-weaker (λ z. not (bytes_eq x z) ≡ true) (Before (x
         up_to zero l e = differs x z n e
         up_to (suc j) l e = b.3 j (omega arith) e
 
-first-appearances : (names : List (List ℕ)) → FirstAppearances names (distinct bytes_eq names)
-first-appearances names = record {
+first_appearances : (names : List (List ℕ)) → FirstAppearances names (distinct bytes_eq names)
+first_appearances names = record {
   whole = λ i h. found (get_or names i []) names (distinct bytes_eq names) (sym (kept (get_or names i []))) (i, h, refl);
   only = λ k h. found (get_or (distinct bytes_eq names) k []) (distinct bytes_eq names) names (kept (get_or (distinct bytes_eq names) k [])) (k, h, refl);
   ordered = λ j k l h. pairwise_at (Before names) (distinct bytes_eq names) j k [] l h (in_order names);
@@ -203,8 +203,8 @@ cover n d pos =
       | inr e ↦ odd n d (n / d) (n % d) (min 1 (n % d)) pos (div-add-mod n d) (mod-lt n pos) (omega arith) (omega arith)
     ]
 
-least-cover : (n step : ℕ) → LeastCover n step (side n step)
-least-cover n step =
+least_cover : (n step : ℕ) → LeastCover n step (side n step)
+least_cover n step =
     let c = cover n (effective step) (omega (arith, le-max_right step 1)) in
     record { covers = c.0; least = c.1 }
 
@@ -214,9 +214,9 @@ laws = record {
   matches = matches;
   schemes = λ text rules c. (last_place (is_for text c) rules, last_place-is (is_for text c) rules no_rule, refl);
   holders = λ text channels rules prefix slot.
-      last-decided (length channels) (λ i. filled_by text rules prefix slot (get_or channels i no_channel) ≡ true) (λ i. Fills text rules prefix slot (get_or channels i no_channel))
+      last_decided (length channels) (λ i. filled_by text rules prefix slot (get_or channels i no_channel) ≡ true) (λ i. Fills text rules prefix slot (get_or channels i no_channel))
       (λ i. (fills text rules prefix slot (get_or channels i no_channel)).0) (λ i. (fills text rules prefix slot (get_or channels i no_channel)).1)
       (holder text channels rules prefix slot) (last_place-is (filled_by text rules prefix slot) channels no_channel);
-  order = first-appearances;
-  sides = least-cover;
+  order = first_appearances;
+  sides = least_cover;
 }

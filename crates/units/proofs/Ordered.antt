@@ -20,8 +20,8 @@ module _ (es : List ChannelInfo) (ts : List Triplet) where
   pub count : length (units_in es ts) ≡ length ts + length (lones_in es ts)
   count = omega (arith, length-append first (map Lone lones), length-map ts OfTriplet, length-map lones Lone)
 
-  pub triplet-at : (k : ℕ) → k < length ts → get_or (units_in es ts) k no_unit ≡ OfTriplet (get_or ts k no_triplet)
-  triplet-at k h =
+  pub triplet_at : (k : ℕ) → k < length ts → get_or (units_in es ts) k no_unit ≡ OfTriplet (get_or ts k no_triplet)
+  triplet_at k h =
       get_or_append_left first (map Lone lones) no_unit k (omega (arith, length-map ts OfTriplet)) ∙ get_or-map OfTriplet ts k no_triplet no_unit h
 
   pub lone_at : (k : ℕ) → length ts ≤ k → k - length ts < length lones → get_or (units_in es ts) k no_unit ≡ Lone (get_or lones (k - length ts) 0)

@@ -21,13 +21,13 @@ module _ (test : ℕ → Bool) (n : ℕ) where
       ∙ ap (λ k. kept i ++ cond (test k) (k ∷ []) []) (number i h)
 
   -- one more where the test passes
-  pub count-more : (i : ℕ) (b : Bool) → i < n → test i ≡ b → length (kept (i + 1)) ≡ length (kept i) + cond b 1 0
-  count-more i b h e =
+  pub count_more : (i : ℕ) (b : Bool) → i < n → test i ≡ b → length (kept (i + 1)) ≡ length (kept i) + cond b 1 0
+  count_more i b h e =
       ap length (kept_more i h) ∙ length-append (kept i) (cond (test i) (i ∷ []) [])
       ∙ ap (λ k. length (kept i) + k) (elim (test i) as (λ x. length (cond {A = List ℕ} x (i ∷ []) []) ≡ cond x 1 0) [ true ↦ refl | false ↦ refl ] ∙ ap (λ x. cond x 1 0) e)
 
-  pub kept-all : (i : ℕ) → n ≤ i → kept i ≡ filter test (range_with_len 0 n)
-  kept-all i h = ap (filter test) (take_all i (range_with_len 0 n) (omega (arith, length-range_with_len 0 n)))
+  pub kept_all : (i : ℕ) → n ≤ i → kept i ≡ filter test (range_with_len 0 n)
+  kept_all i h = ap (filter test) (take_all i (range_with_len 0 n) (omega (arith, length-range_with_len 0 n)))
 
   -- the one that passes at i has as many before it as were kept so far
   pub ranked : (i : ℕ) → i < n → test i ≡ true → (length (kept i) < length (filter test (range_with_len 0 n))) × (i ≡ get_or (filter test (range_with_len 0 n)) (length (kept i)) 0)

@@ -1,6 +1,6 @@
 use Rattle.std.proofs.Common.{get_or, ap, ◌∙◌, arith}
 use Rattle.channel_rules.specs.Names.{Splits}
-use Rattle.channel_rules.proofs.Splitting.{splits-cut}
+use Rattle.channel_rules.proofs.Splitting.{splits_cut}
 use Rattle.channel_rules.proofs.names.prefix_len.Goals as goal
 
 pub returns-else-name-n-ne46 : goal.returns-else-name-n-ne46
@@ -10,7 +10,7 @@ returns-else-name-n-ne46 c =
       plain = c.loop-n.invariant.1;
       dotted = λ k e. ap (λ i. get_or c.args.name.now i 0) (omega arith) ∙ c.if-name-n-ne46.false;
     } in
-    record { splits = s; value = splits-cut _ _ s }
+    record { splits = s; value = splits_cut _ _ s }
 
 pub returns-after-loop-n : goal.returns-after-loop-n
 returns-after-loop-n c =
@@ -19,4 +19,4 @@ returns-after-loop-n c =
       plain = c.loop-n.invariant.1;
       dotted = λ k e. absurd (let z : ⊥ = omega arith in z);
     } in
-    record { splits = s; value = splits-cut _ _ s }
+    record { splits = s; value = splits_cut _ _ s }

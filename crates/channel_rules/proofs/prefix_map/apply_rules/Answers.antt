@@ -4,7 +4,7 @@ use Rattle.channel_rules.specs.declared.records.Rule.{Rule}
 use Rattle.channel_rules.specs.Rules.{matched, is_for}
 use Rattle.channel_rules.specs.Triplets.{no_rule}
 use Rattle.channel_rules.specs.PrefixMap.{ruled}
-use Rattle.channel_rules.proofs.OneRule.{scheme-more, stamped-more}
+use Rattle.channel_rules.proofs.OneRule.{scheme_more, stamped-more}
 use Rattle.channel_rules.proofs.prefix_map.apply_rules.Goals as goal
 
 pub loop-rule-preserved : goal.loop-rule-preserved
@@ -18,7 +18,7 @@ loop-rule-preserved c =
     let m : c.matches-matches.result ≡ is_for text own r =
     c.matches-matches.ensures ∙ ap (λ s. matched text s own.sample_type r) c.suffix-suffix.ensures.value in (
       c.apply_rule.ensures.scheme ∙ ap (λ b. cond b r.scheme c.loop-rule.scheme) m
-          ∙ ap (cond (is_for text own r) r.scheme) c.loop-rule.invariant.0 ∙ sym (scheme-more text rules own i c.loop-rule-test.true),
+          ∙ ap (cond (is_for text own r) r.scheme) c.loop-rule.invariant.0 ∙ sym (scheme_more text rules own i c.loop-rule-test.true),
       c.apply_rule.ensures.slots ∙ ap (λ b. ruled b r.csc_index n c.loop-rule.slots) m
           ∙ ap (ruled (is_for text own r) r.csc_index n) c.loop-rule.invariant.1
           ∙ sym (stamped-more text rules own i c.loop-rule-test.true n c.args.slots.now),

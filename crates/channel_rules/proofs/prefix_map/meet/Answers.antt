@@ -6,7 +6,7 @@ use Rattle.channel_rules.specs.declared.records.ChannelDescription.{ChannelDescr
 use Rattle.channel_rules.specs.declared.prefix_map.KnownPrefix.{KnownPrefix}
 use Rattle.channel_rules.specs.declared.prefix_map.Slots.{Slots}
 use Rattle.channel_rules.specs.PrefixMap.{no_known, no_slots, known_bytes, Met, stamped}
-use Rattle.channel_rules.proofs.Growing.{met_old, met_new, firsts-set, firsts-push}
+use Rattle.channel_rules.proofs.Growing.{met_old, met_new, firsts_set, firsts_push}
 use Rattle.channel_rules.proofs.prefix_map.meet.Goals as goal
 
 -- what `place_of` answered, said of the list and the channel's prefix
@@ -33,7 +33,7 @@ returns-in-Some c =
     let n : record { first = c.index.result.now.first; slots = c.apply_rules-scheme.new.slots } ≡ new =
     ap (λ (k : KnownPrefix). record { first = k.first; slots = c.apply_rules-scheme.new.slots }) first ∙ ap (λ (x : Slots). record { first = (get_or ks at no_known).first; slots = x }) s in
     let done : Met text chs rules (c.args.index + 1) (set ks at new) = record {
-      firsts = firsts-set (length chs) ks at new c.requires.met.firsts (c.requires.met.firsts at here.0);
+      firsts = firsts_set (length chs) ks at new c.requires.met.firsts (c.requires.met.firsts at here.0);
       views = met_old text chs rules c.args.index c.requires.within ks c.requires.met.views at here.0 here.1;
     } in
     record {
@@ -55,7 +55,7 @@ returns-in-None c =
     let n : record { first = c.args.index; slots = c.apply_rules-scheme-in-None.new.slots } ≡ new =
     ap (λ (x : Slots). record { first = c.args.index; slots = x }) c.apply_rules-scheme-in-None.ensures.slots in
     let done : Met text chs rules (c.args.index + 1) (ks ++ new ∷ []) = record {
-      firsts = firsts-push (length chs) ks new c.requires.met.firsts c.requires.within;
+      firsts = firsts_push (length chs) ks new c.requires.met.firsts c.requires.within;
       views = met_new text chs rules c.args.index c.requires.within ks c.requires.met.views nowhere;
     } in
     record {

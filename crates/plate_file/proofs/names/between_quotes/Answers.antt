@@ -1,6 +1,6 @@
 use Rattle.std.proofs.Common.{Ok, sym, ap, ◌∙◌, arith, rules, ltb-false, ltb-true}
 use Rattle.std.proofs.lemmas.List.{take_rest}
-use Rattle.plate_file.proofs.Quotes.{to_close, behind-name, never-closed, runs_on, stands}
+use Rattle.plate_file.proofs.Quotes.{to_close, behind_name, never_closed, runs_on, stands}
 use Rattle.plate_file.proofs.names.between_quotes.Goals as goal
 
 pub returns-in_default-left : goal.returns-in_default-left
@@ -9,7 +9,7 @@ returns-in_default-left c =
     let e = c.pass-written.new.self.left.now in
     record {
       len = search rules;
-      value = to_close c.args.reader.now.left.now q _ e c.pass.ensures.after (take_rest q 1) c.pass-written.ensures.after (omega (arith, ltb-false)) (omega arith) ∙ never-closed _ e (omega (arith, ltb-true));
+      value = to_close c.args.reader.now.left.now q _ e c.pass.ensures.after (take_rest q 1) c.pass-written.ensures.after (omega (arith, ltb-false)) (omega arith) ∙ never_closed _ e (omega (arith, ltb-true));
       after = tt;
     }
 
@@ -34,5 +34,5 @@ returns c =
       value =
           to_close c.args.reader.now.left.now q _ e c.pass.ensures.after (take_rest q 1) c.pass-written.ensures.after (omega (arith, ltb-false)) (omega arith)
           ∙ stands _ e _ (omega (arith, ltb-false)) (take_rest e 1) (omega (arith, c.count.ensures)) ∙ ap Ok (sym c.pass-written.ensures.front);
-      after = take_rest e 1 ∙ behind-name c.args.reader.now.left.now q _ e c.pass.ensures.after (take_rest q 1) c.pass-written.ensures.after;
+      after = take_rest e 1 ∙ behind_name c.args.reader.now.left.now q _ e c.pass.ensures.after (take_rest q 1) c.pass-written.ensures.after;
     }

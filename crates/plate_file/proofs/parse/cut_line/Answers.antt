@@ -1,7 +1,7 @@
 use Rattle.std.proofs.Common.{[], ◌∷◌, sym, ap, ◌∙◌, arith, rules, ltb-false, ltb-true}
 use Rattle.std.proofs.lemmas.List.{take_rest}
 use Rattle.plate_file.specs.Fields.{lines_of}
-use Rattle.plate_file.proofs.Cutting.{last_line, next-lines}
+use Rattle.plate_file.proofs.Cutting.{last_line, next_lines}
 use Rattle.plate_file.proofs.parse.cut_line.Goals as goal
 
 pub returns-in-empty : goal.returns-in-empty
@@ -16,7 +16,7 @@ returns-in-len1-up c =
     let rest = c.pass-line.new.self.left.now in
     record {
       lines =
-          next-lines c.args.bytes.now rest c.pass-line.ensures.after (omega (arith, ltb-true, ltb-false))
+          next_lines c.args.bytes.now rest c.pass-line.ensures.after (omega (arith, ltb-true, ltb-false))
           ∙ (λ i. sym c.pass-line.ensures.front i ∷ lines_of (sym (take_rest rest 1) i));
       goes = search rules;
     }

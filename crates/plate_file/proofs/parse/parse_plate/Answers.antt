@@ -3,7 +3,7 @@ use Rattle.plate_file.specs.declared.plate.Plate.{Plate}
 use Rattle.plate_file.specs.declared.problem.Malformed.{Malformed}
 use Rattle.plate_file.specs.Fields.{lines_of, lines_left}
 use Rattle.plate_file.specs.File.{progress, on_line, lines_after, Answered}
-use Rattle.plate_file.proofs.Cutting.{some-line, lines_counted}
+use Rattle.plate_file.proofs.Cutting.{some_line, lines_counted}
 use Rattle.plate_file.proofs.Written.{faithful}
 use Rattle.plate_file.proofs.parse.parse_plate.Goals as goal
 
@@ -22,7 +22,7 @@ returns-in-Ok-finish c =
 
 pub returns-in-Err-finish : goal.returns-in-Err-finish
 returns-in-Err-finish c =
-    let some = some-line c.args.bytes.now in
+    let some = some_line c.args.bytes.now in
     let none = ap (λ left. length (lines_left left)) c.in_default.is in
     let line = c.loop-left.line in
     let r : Result Plate Malformed = Err (record { line = line; problem = c.in-Err-finish.problem }) in

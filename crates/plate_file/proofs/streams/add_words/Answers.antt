@@ -7,23 +7,27 @@ use Rattle.plate_file.proofs.Cutting.{no_fields, first_field}
 use Rattle.plate_file.proofs.StreamWords.{longer-none, longer-full, longer-bad, longer-more}
 use Rattle.plate_file.proofs.streams.add_words.Goals as goal
 
-pub returns-then-left-eq0 : goal.returns-then-left-eq0
-returns-then-left-eq0 c =
-    inr (c.loop-field.invariant ∙ longer-full _ c.loop-field.left _ _ _ (first_field (unread c.loop-field.reader) c.in-Some.ensures.value.1) c.if-left-eq0.true)
+pub returns-then-left-eq0-clause-exact : goal.returns-then-left-eq0-clause-exact
+returns-then-left-eq0-clause-exact c =
+    inr (c.loop-field.invariant.stream ∙ longer-full _ c.loop-field.left _ _ _ (first_field (unread c.loop-field.reader) c.in-Some.ensures.value.1) c.if-left-eq0.true)
 
-pub returns-in_err-word_of : goal.returns-in_err-word_of
-returns-in_err-word_of c =
+pub returns-in_err-word_of-clause-exact : goal.returns-in_err-word_of-clause-exact
+returns-in_err-word_of-clause-exact c =
     let bs = unread c.loop-field.reader in
     let p = err_from_is_err_and c.from_residual.result c.from_residual.ensures.1 in
     rw (p.1, p.2)
-    (inr (c.loop-field.invariant ∙ longer-bad _ _ _ _ (first_field bs c.in-Some.ensures.value.1) c.loop-field.left _ (omega arith) (c.in_err-word_of.ensures ∙ ap word_in c.in-Some.ensures.value.0)))
+    (inr (c.loop-field.invariant.stream ∙ longer-bad _ _ _ _ (first_field bs c.in-Some.ensures.value.1) c.loop-field.left _ (omega arith) (c.in_err-word_of.ensures ∙ ap word_in c.in-Some.ensures.value.0)))
 
 pub loop-field-preserved : goal.loop-field-preserved
 loop-field-preserved c =
     let bs = unread c.loop-field.reader in
-    c.loop-field.invariant
-    ∙ longer-more _ _ _ _ (first_field bs c.in-Some.ensures.value.1) c.loop-field.left _ (omega arith) (c.in_ok-word_of.ensures ∙ ap word_in c.in-Some.ensures.value.0)
-    ∙ (λ i. longer (sym c.in_ok-push.ensures.items i) (c.loop-field.left - 1) (fields_of (sym c.in-Some.ensures.after i)))
+    record {
+      stream =
+          c.loop-field.invariant.stream
+          ∙ longer-more _ _ _ _ (first_field bs c.in-Some.ensures.value.1) c.loop-field.left _ (omega arith) (c.in_ok-word_of.ensures ∙ ap word_in c.in-Some.ensures.value.0)
+          ∙ (λ i. longer (sym c.in_ok-push.ensures.items i) (c.loop-field.left - 1) (fields_of (sym c.in-Some.ensures.after i)));
+      shorter = omega (arith, c.loop-field.invariant.shorter, c.in-Some.ensures.len);
+    }
 
-pub returns : goal.returns
-returns c = c.loop-field.invariant ∙ longer-none _ c.loop-field.left _ (no_fields (unread c.loop-field.reader) c.in_default.ensures.value)
+pub returns-clause-exact : goal.returns-clause-exact
+returns-clause-exact c = c.loop-field.invariant.stream ∙ longer-none _ c.loop-field.left _ (no_fields (unread c.loop-field.reader) c.in_default.ensures.value)

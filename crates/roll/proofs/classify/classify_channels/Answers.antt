@@ -10,7 +10,7 @@ use Rattle.channel_rules.specs.Sides.{info_in}
 use Rattle.roll.specs.Refusals.{Doubled, Judged, unless_refused}
 use Rattle.roll.specs.Kept.{Sides, Members, Apart}
 use Rattle.channel_rules.specs.PrefixMap.{no_known, Bounded, formed_of}
-use Rattle.channel_rules.proofs.Forming.{known_bounded, all-formed}
+use Rattle.channel_rules.proofs.Forming.{known_bounded, all_formed}
 use Rattle.roll.proofs.Judging.{Passed, passed, accepted, doubled}
 use Rattle.roll.proofs.Keeping.{sides, members, apart}
 use Rattle.roll.proofs.Lawful.{laws}
@@ -66,7 +66,7 @@ listed c =
     c.list_triplets.ensures.items
     ∙ ap (λ (l : List ChannelInfo). formed_of chs l c.as_slice-2.result.now) (c.as_slice.ensures.value ∙ c.list_channels.ensures.items)
     ∙ ap (formed_of chs (map (info_in c.args.text.now c.args.rules.now c.args.rectangle.now) chs)) c.as_slice-2.ensures.value
-    ∙ all-formed c.args.text.now chs c.args.rules.now (vec_items c.list_channels.new.known) c.list_channels.ensures.met c.args.rectangle.now
+    ∙ all_formed c.args.text.now chs c.args.rules.now (vec_items c.list_channels.new.known) c.list_channels.ensures.met c.args.rectangle.now
 
 pub returns-in-Some : goal.returns-in-Some
 returns-in-Some c =
@@ -104,12 +104,12 @@ invariant_of-roll-in_default c =
     let t = listed (goal.at.invariant_of-roll-in_default c).After-list_triplets in
     let both : Members (vec_items c.list_channels.new.infos) (vec_items c.list_triplets.new.out) =
     subst (λ es. Members es (vec_items c.list_triplets.new.out)) (sym e) (subst (Members (map (info_in text rules bounds) chs)) (sym t) (members text chs rules bounds)) in
-    let room-channels : 64 ≤ vec_capacity c.list_channels.new.infos = omega (arith, c.list_channels.ensures.capacity.0, c.clear.ensures.capacity, c.args.roll.now.room.0) in
-    let room-triplets : 64 ≤ vec_capacity c.list_triplets.new.out = omega (arith, c.list_triplets.ensures.capacity, c.clear-2.ensures.capacity, c.args.roll.now.room.1) in
-    let room-map : 64 ≤ vec_capacity c.clear-3.new.self = omega (arith, c.clear-3.ensures.capacity, c.list_channels.ensures.capacity.1, c.args.roll.now.room.2) in
+    let room_channels : 64 ≤ vec_capacity c.list_channels.new.infos = omega (arith, c.list_channels.ensures.capacity.0, c.clear.ensures.capacity, c.args.roll.now.room.0) in
+    let room_triplets : 64 ≤ vec_capacity c.list_triplets.new.out = omega (arith, c.list_triplets.ensures.capacity, c.clear-2.ensures.capacity, c.args.roll.now.room.1) in
+    let room_map : 64 ≤ vec_capacity c.clear-3.new.self = omega (arith, c.clear-3.ensures.capacity, c.list_channels.ensures.capacity.1, c.args.roll.now.room.2) in
     let few : length (vec_items c.list_channels.new.infos) ≤ 64 = omega (arith, ap length e, length-map chs (info_in text rules bounds), h.few) in
     record {
-      room = (room-channels, room-triplets, room-map);
+      room = (room_channels, room_triplets, room_map);
       idle = c.clear-3.ensures.items;
       few = few;
       sides = subst Sides (sym e) (sides text chs rules bounds h.wide h.high);

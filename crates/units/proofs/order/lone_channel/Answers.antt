@@ -1,6 +1,6 @@
 use Rattle.std.proofs.Common.{◌≡◌, ◌<◌, true, false, length, get_or, sym, ap, ◌∙◌, subst, arith}
 use Rattle.units.specs.Units.{is_lone, lones_in}
-use Rattle.units.proofs.Ranked.{kept, count-more, kept-all, ranked}
+use Rattle.units.proofs.Ranked.{kept, count_more, kept_all, ranked}
 use Rattle.units.proofs.order.lone_channel.Goals as goal
 use Rattle.units.proofs.order.lone_channel.Goals.{then-is_lone+else-before-eq0, else-is_lone}
 
@@ -21,13 +21,13 @@ loop-channel-preserved c =
     let i = c.loop-channel.channel in
     elim c.if-is_lone.branch [
       | then-is_lone+else-before-eq0 w ↦
-          (let more = count-more test n i true c.loop-channel-test.true (sym c.is_lone.ensures ∙ w.if-is_lone.true) in
+          (let more = count_more test n i true c.loop-channel-test.true (sym c.is_lone.ensures ∙ w.if-is_lone.true) in
           omega (arith, w.before-is, w.if-before-eq0.false, c.loop-channel.invariant))
       | else-is_lone w ↦
-          (let more = count-more test n i false c.loop-channel-test.true (sym c.is_lone.ensures ∙ w.if-is_lone.false) in
+          (let more = count_more test n i false c.loop-channel-test.true (sym c.is_lone.ensures ∙ w.if-is_lone.false) in
           omega (arith, w.before-is, c.loop-channel.invariant))
     ]
 
 pub returns : goal.returns
 returns c =
-    omega (arith, c.loop-channel.invariant, ap length (kept-all (is_lone c.args.infos.now c.args.triplets.now) (length c.args.infos.now) c.loop-channel.channel (omega arith)))
+    omega (arith, c.loop-channel.invariant, ap length (kept_all (is_lone c.args.infos.now c.args.triplets.now) (length c.args.infos.now) c.loop-channel.channel (omega arith)))

@@ -4,7 +4,7 @@ use Rattle.channel_rules.specs.declared.records.Triplet.{Triplet}
 use Rattle.units.specs.declared.unit.UnitChannels.TheVariants.{Triplet as OfTriplet, Lone}
 use Rattle.channel_rules.specs.Triplets.{no_triplet}
 use Rattle.units.specs.Units.{lones_in, units_in, UnitAt}
-use Rattle.units.proofs.Ordered.{count, triplet-at, lone_at, placed}
+use Rattle.units.proofs.Ordered.{count, triplet_at, lone_at, placed}
 use Rattle.units.proofs.order.unit_at.Goals as goal
 use Rattle.units.proofs.order.unit_at.Goals.{Then-index-triplets}
 
@@ -23,7 +23,7 @@ returns-then-index-triplets c =
     let ts = vec_items c.args.roll.now.triplets in
     let k = c.args.index in
     let h : k < length ts = inside (goal.at.returns-then-index-triplets c).Then-index-triplets in
-    let e = triplet-at es ts k h ∙ ap (λ (l : List Triplet). OfTriplet (get_or l k no_triplet)) (sym c.triplets-triplets.ensures) in
+    let e = triplet_at es ts k h ∙ ap (λ (l : List Triplet). OfTriplet (get_or l k no_triplet)) (sym c.triplets-triplets.ensures) in
     placed es ts k c.unit_of.result (OfTriplet (get_or c.triplets-triplets.result.now k no_triplet)) (omega (arith, count es ts)) e c.unit_of.ensures.channels c.unit_of.ensures.size
 
 -- what `lone_channel` was asked of

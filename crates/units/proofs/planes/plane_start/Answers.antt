@@ -5,7 +5,7 @@ use Rattle.channel_rules.specs.Triplets.{is_lossy}
 use Rattle.channel_rules.specs.Triplets.{no_info}
 use Rattle.roll.specs.Kept.{Sides}
 use Rattle.units.specs.Units.{plane_area, plane_start, total_samples}
-use Rattle.units.proofs.EndToEnd.{front, sides-take, within-total, before-later}
+use Rattle.units.proofs.EndToEnd.{front, sides_take, within_total, before_later}
 use Rattle.units.proofs.planes.plane_start.Goals as goal
 use Rattle.units.proofs.planes.plane_start.Goals.{Then-is_lossy}
 
@@ -20,7 +20,7 @@ samples_of-requires c =
     let e = front n c.channels-infos.ensures in
     record {
       few = omega (arith, ap length e, length-take-le n es (omega arith), c.args.roll.now.few);
-      sides = subst Sides (sym e) (sides-take n es (omega arith) c.args.roll.now.sides);
+      sides = subst Sides (sym e) (sides_take n es (omega arith) c.args.roll.now.sides);
     }
 
 pub returns-then-is_lossy : goal.returns-then-is_lossy
@@ -32,6 +32,6 @@ returns-then-is_lossy c =
     let lossy = sym (ap (λ (l : List ChannelInfo). is_lossy (get_or l n no_info).scheme) c.channels-infos.ensures) ∙ sym c.if-is_lossy.ensures in (
       (h, lossy),
       s,
-      subst (λ k. k + plane_area (get_or es n no_info) ≤ total_samples es) (sym s) (within-total es n h),
-      λ j l. subst (λ k. k + plane_area (get_or es n no_info) ≤ plane_start es j) (sym s) (before-later es n j h l),
+      subst (λ k. k + plane_area (get_or es n no_info) ≤ total_samples es) (sym s) (within_total es n h),
+      λ j l. subst (λ k. k + plane_area (get_or es n no_info) ≤ plane_start es j) (sym s) (before_later es n j h l),
     )
