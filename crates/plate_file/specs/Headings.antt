@@ -2,6 +2,7 @@
 use Rattle.std.specs.Prelude.{◌≡◌, ℕ, List, [], ◌∷◌, ◌++◌, Some, None, Ok, Err, vec_items, Option, Result}
 use Rattle.channel_rules.specs.declared.records.IntegerBounds.{IntegerBounds}
 use Rattle.channel_rules.specs.declared.records.ChannelDescription.{ChannelDescription}
+use Rattle.channel_rules.specs.declared.records.Part.{Part}
 use Rattle.channel_rules.specs.declared.records.Rule.{Rule}
 use Rattle.plate_file.specs.declared.plate.Header.{Header}
 use Rattle.plate_file.specs.declared.problem.Problem.{Problem}
@@ -29,6 +30,15 @@ no_heading = record { text = []; channels = []; rules = []; rectangle = None }
 abbrev pub placed : Heading → Option IntegerBounds → List ℕ → Result Heading Problem
 placed h (Some bounds) bs = Err SecondRectangle
 placed h None bs = and_then (rectangle_in bs) (λ bounds. Ok (record { text = h.text; channels = h.channels; rules = h.rules; rectangle = Some bounds }))
+
+-- what a line says behind a name that is put behind a text, or its first fault
+abbrev pub named_in : {A : Type 0} → (Part → List ℕ → Result A Problem) → List ℕ → List ℕ → Result A Problem
+named_in reads text bs = and_then (name_in bs) (λ name. reads (part_of text name) (after_name bs))
+
+-- it says this, and the name has been put behind the text
+abbrev pub BehindName : {A : Type 0} → (Part → List ℕ → Result A Problem) → List ℕ → List ℕ → List ℕ → A → Type 0
+BehindName reads bs old new a =
+    (name : List ℕ) × (name_in bs ≡ Ok name) × (new ≡ old ++ name) × (reads (part_of old name) (after_name bs) ≡ Ok a)
 
 -- what a line adds behind the word `rectangle`
 abbrev pub with_rectangle : Heading → List ℕ → Result Heading Problem

@@ -3,8 +3,7 @@ ghost use Rattle.std.specs.Prelude.{◌≡◌, ◌≤◌};
 ghost use Rattle.plate_file.specs.Reading.{unread, ahead};
 ghost use Rattle.plate_file.specs.Headings.{heading, no_heading, with_rectangle, with_channel, with_rule, Says};
 
-use crate::lines::{channel_named, rectangle, rule_for};
-use crate::names::quoted;
+use crate::lines::{channel, rectangle, rule};
 use crate::plate::Header;
 use crate::problem::Problem;
 use crate::reader::Reader;
@@ -37,8 +36,8 @@ impl Header {
         ensures len { ahead reader.new ≤ ahead reader.old }
         ensures says { Says (with_channel (heading self.old) (unread reader.old)) self.new result }
     {
-        let name = quoted(reader, &mut self.text)?;
-        self.channels.push(channel_named(reader, name)?)?;
+        let channel = channel(reader, &mut self.text)?;
+        self.channels.push(channel)?;
         Ok(())
     }
 
@@ -46,8 +45,8 @@ impl Header {
         ensures len { ahead reader.new ≤ ahead reader.old }
         ensures says { Says (with_rule (heading self.old) (unread reader.old)) self.new result }
     {
-        let suffix = quoted(reader, &mut self.text)?;
-        self.rules.push(rule_for(reader, suffix)?)?;
+        let rule = rule(reader, &mut self.text)?;
+        self.rules.push(rule)?;
         Ok(())
     }
 }

@@ -1,11 +1,15 @@
 // The fields of a rectangle, a channel and a rule.
-ghost use Rattle.std.specs.Prelude.{◌≡◌, ◌≤◌, IfOk, Some, Ok};
+ghost use Rattle.std.specs.Prelude.{◌≡◌, ◌≤◌, IfOk, MatchResult, Some, Ok, vec_len};
 ghost use Rattle.plate_file.specs.Decimal.{Unsigned, Signed};
+ghost use Rattle.plate_file.specs.Inside.{Inside};
+ghost use Rattle.plate_file.specs.Headings.{BehindName, named_in};
+ghost use Rattle.plate_file.specs.Steps.{Fault};
 ghost use Rattle.plate_file.specs.Lines.{RectangleIn, ChannelIn, RuleIn, SlotIn, FlagIn, number_next, signed_next, type_next, scheme_next, slot_next, flag_next, rectangle_in, channel_in, rule_in};
 ghost use Rattle.plate_file.specs.Words.{TypeWord, SchemeWord};
 ghost use Rattle.plate_file.specs.Reading.{field_in, after_field, unread, ahead};
 
 use crate::keywords::{is, sample_type_of, scheme_of};
+use crate::names::quoted;
 use crate::numbers::{signed, unsigned};
 use crate::problem::Problem;
 use crate::reader::Reader;
@@ -100,10 +104,7 @@ pub(crate) fn rectangle(reader: &mut Reader<'_>) -> Result<IntegerBounds, Proble
 }
 
 // The fields of a channel behind its name.
-pub(crate) fn channel_named(
-    reader: &mut Reader<'_>,
-    name: Part,
-) -> Result<ChannelDescription, Problem>
+fn channel_named(reader: &mut Reader<'_>, name: Part) -> Result<ChannelDescription, Problem>
     ensures name { IfOk result (λ channel. channel.name ≡ name) }
     ensures value { IfOk result (ChannelIn (unread reader.old)) }
     ensures len { ahead reader.new ≤ ahead reader.old }
@@ -123,7 +124,7 @@ pub(crate) fn channel_named(
 }
 
 // The fields of a rule behind its suffix.
-pub(crate) fn rule_for(reader: &mut Reader<'_>, suffix: Part) -> Result<Rule, Problem>
+fn rule_for(reader: &mut Reader<'_>, suffix: Part) -> Result<Rule, Problem>
     ensures suffix { IfOk result (λ rule. rule.suffix ≡ suffix) }
     ensures value { IfOk result (RuleIn (unread reader.old)) }
     ensures len { ahead reader.new ≤ ahead reader.old }
@@ -140,4 +141,29 @@ pub(crate) fn rule_for(reader: &mut Reader<'_>, suffix: Part) -> Result<Rule, Pr
         csc_index,
         case_insensitive,
     })
+}
+
+// Adds the channel's name to `text`.
+pub(crate) fn channel(
+    reader: &mut Reader<'_>,
+    text: &mut Vec<u8>,
+) -> Result<ChannelDescription, Problem>
+    ensures len { ahead reader.new ≤ ahead reader.old }
+    ensures kept { vec_len text.old ≤ vec_len text.new }
+    ensures inside { IfOk result (λ channel. Inside (vec_len text.new) channel.name) }
+    ensures exact { MatchResult result (BehindName channel_in (unread reader.old) text.old.items text.new.items) (Fault (named_in channel_in text.old.items (unread reader.old))) }
+{
+    let name = quoted(reader, text)?;
+    channel_named(reader, name)
+}
+
+// Adds the rule's suffix to `text`.
+pub(crate) fn rule(reader: &mut Reader<'_>, text: &mut Vec<u8>) -> Result<Rule, Problem>
+    ensures len { ahead reader.new ≤ ahead reader.old }
+    ensures kept { vec_len text.old ≤ vec_len text.new }
+    ensures inside { IfOk result (λ rule. Inside (vec_len text.new) rule.suffix) }
+    ensures exact { MatchResult result (BehindName rule_in (unread reader.old) text.old.items text.new.items) (Fault (named_in rule_in text.old.items (unread reader.old))) }
+{
+    let suffix = quoted(reader, text)?;
+    rule_for(reader, suffix)
 }

@@ -8,9 +8,8 @@ use Rattle.plate_file.proofs.plate.Header.add_channel.Goals as goal
 pub invariant_of-self-2 : goal.invariant_of-self-2
 invariant_of-self-2 c =
     let old = c.args.self.now in
-    let grew = c.quoted.ensures.kept in
-    let fits = c.in_ok-name.ensures.inside in record {
-      named = pushed (λ channel. Inside (vec_len c.quoted.new.text) channel.name) no_channel (is_ok c.push.result) _ _ _ c.push.ensures.items (λ k h. omega (arith, old.named k h))
-          (rw c.in_ok-channel_named.ensures.name fits);
+    let grew = c.channel.ensures.kept in record {
+      named = pushed (λ channel. Inside (vec_len c.channel.new.text) channel.name) no_channel (is_ok c.push.result) _ _ _ c.push.ensures.items (λ k h. omega (arith, old.named k h))
+          c.in_ok-channel.ensures.inside;
       suffixed = λ k h. omega (arith, old.suffixed k h);
     }

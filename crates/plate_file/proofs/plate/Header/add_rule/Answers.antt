@@ -8,9 +8,8 @@ use Rattle.plate_file.proofs.plate.Header.add_rule.Goals as goal
 pub invariant_of-self-2 : goal.invariant_of-self-2
 invariant_of-self-2 c =
     let old = c.args.self.now in
-    let grew = c.quoted.ensures.kept in
-    let fits = c.in_ok-suffix.ensures.inside in record {
+    let grew = c.rule.ensures.kept in record {
       named = λ k h. omega (arith, old.named k h);
-      suffixed = pushed (λ rule. Inside (vec_len c.quoted.new.text) rule.suffix) no_rule (is_ok c.push.result) _ _ _ c.push.ensures.items (λ k h. omega (arith, old.suffixed k h))
-          (rw c.in_ok-rule_for.ensures.suffix fits);
+      suffixed = pushed (λ rule. Inside (vec_len c.rule.new.text) rule.suffix) no_rule (is_ok c.push.result) _ _ _ c.push.ensures.items (λ k h. omega (arith, old.suffixed k h))
+          c.in_ok-rule.ensures.inside;
     }
