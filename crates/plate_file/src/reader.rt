@@ -3,6 +3,7 @@ ghost use Rattle.std.specs.Prelude.{◌≡◌, ◌+◌, ◌<◌, ◌≤◌, leng
 ghost use Rattle.std.specs.List.{prefix_len};
 ghost use Rattle.plate_file.specs.Reading.{in_run, front, past, field_in, after_field, unread, ahead};
 ghost use Rattle.plate_file.specs.Steps.{ended};
+ghost use Rattle.plate_file.specs.File.{first_in};
 
 use crate::problem::Problem;
 
@@ -49,6 +50,18 @@ pub(crate) struct Reader<'a> {
 }
 
 impl<'a> Reader<'a> {
+    // Takes the first line, which is the same in every file.
+    pub(crate) fn first_line(&mut self) -> Result<(), Problem>
+        ensures len { ahead self.new ≤ ahead self.old }
+        ensures exact { result ≡ first_in (unread self.old) }
+    {
+        let Some(rest) = self.left.strip_prefix(b"plate 1") else {
+            return Err(Problem::NotAPlate);
+        };
+        self.left = rest;
+        self.end_line(Problem::NotAPlate)
+    }
+
     // Takes the bytes at the front that are of one sort.
     pub(crate) fn pass(&mut self, run: Run) -> &'a [u8]
         ensures front { result.now ≡ front run (unread self.old) }

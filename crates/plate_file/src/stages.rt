@@ -1,7 +1,7 @@
 // What one line more makes of a draft.
 ghost use Rattle.std.specs.Prelude.{◌≡◌, ◌≤◌, Ok, Err, MatchResult};
 ghost use Rattle.plate_file.specs.Reading.{unread, ahead};
-ghost use Rattle.plate_file.specs.File.{contents, progress, headed, in_dc, in_ac, first_in, is_idle, begun, line_after, Leads, finished};
+ghost use Rattle.plate_file.specs.File.{contents, progress, headed, in_dc, in_ac, is_idle, begun, line_after, Leads, finished};
 ghost use Rattle.plate_file.specs.Headings.{heading};
 
 use crate::draft::Draft;
@@ -11,17 +11,6 @@ use crate::problem::Problem;
 use crate::reader::Reader;
 use crate::streams::{add_words, count};
 use std::alloc::Global;
-
-// The first line, which is the same in every file.
-fn first_line(line: &[u8]) -> Result<(), Problem>
-    ensures { result ≡ first_in line.now }
-{
-    let Some(left) = line.strip_prefix(b"plate 1") else {
-        return Err(Problem::NotAPlate);
-    };
-    let mut reader = Reader { left };
-    reader.end_line(Problem::NotAPlate)
-}
 
 // Whether the line is a comment or has no field.
 fn is_idle(line: &[u8]) -> bool
@@ -123,7 +112,8 @@ impl Draft {
     {
         match self {
             Draft::Opening => {
-                first_line(line)?;
+                let mut reader = Reader { left: line };
+                reader.first_line()?;
                 Ok(Draft::Heading(Header::new(heap)))
             }
             Draft::Heading(header) => heading_line(heap, header, line),
