@@ -6,21 +6,26 @@ use Rattle.plate_file.specs.declared.reader.Run.TheVariants.{Blanks, Field, Lett
 use Rattle.plate_file.specs.declared.problem.Problem.TheVariants.{BadName}
 use Rattle.plate_file.specs.Reading.{in_run, front, past}
 use Rattle.plate_file.specs.Fields.{goes_on}
-use Rattle.plate_file.specs.Quoted.{opened, closed, written_in, after_name}
+use Rattle.plate_file.specs.Quoted.{opened, closed, written_in, after_name, Opens}
 
 quote_first : (q : List ℕ) → 0 < length q → get_or q 0 0 ≡ 34 → opened q ≡ closed (front Letters (drop 1 q)) (past Letters (drop 1 q))
 quote_first [] h e = absurd (let z : ⊥ = omega arith in z)
 quote_first (b ∷ bs) h e = ap (λ t. cond t (closed (front Letters bs) (past Letters bs)) (Err BadName)) (eq-eqb b 34 e)
 
--- q is the line from the opening quote on, r what follows the quote, and e the line from the closing quote on
-module _ (bs q r e : List ℕ) (opens : q ≡ past Blanks bs) (inside : r ≡ drop 1 q) (ends : e ≡ past Letters r) where
-  pub to_close : 0 < length q → get_or q 0 0 ≡ 34 → written_in bs ≡ closed (front Letters r) e
-  to_close some quote =
-      sym (ap opened opens) ∙ quote_first q some quote
-      ∙ (λ i. closed (front Letters (sym inside i)) (past Letters (sym inside i))) ∙ ap (closed (front Letters r)) (sym ends)
+-- q is the line from the opening quote on
+pub opens_with : (bs q r : List ℕ) → q ≡ past Blanks bs → 0 < length q → get_or q 0 0 ≡ 34 → r ≡ drop 1 q → Opens bs r
+opens_with bs q r opens some quote follows =
+    record { some = omega (arith, ap length opens); quote = sym (ap (λ q. get_or q 0 0) opens) ∙ quote; follows = follows ∙ ap (drop 1) opens }
+
+-- r is what follows the quote, and e the line from the closing quote on
+module _ (bs r e : List ℕ) (o : Opens bs r) (ends : e ≡ past Letters r) where
+  pub to_close : written_in bs ≡ closed (front Letters r) e
+  to_close =
+      quote_first (past Blanks bs) o.some o.quote
+      ∙ (λ i. closed (front Letters (sym o.follows i)) (past Letters (sym o.follows i))) ∙ ap (closed (front Letters r)) (sym ends)
 
   pub behind_name : drop 1 e ≡ after_name bs
-  behind_name = ap (drop 1) (ends ∙ ap (past Letters) (inside ∙ ap (drop 1) opens))
+  behind_name = ap (drop 1) (ends ∙ ap (past Letters) o.follows)
 
 pub never_closed : (w e : List ℕ) → length e ≡ 0 → closed w e ≡ Err BadName
 never_closed w [] h = refl

@@ -1,5 +1,5 @@
 -- How a name is written.
-use Rattle.std.specs.Prelude.{◌≡◌, ℕ, zero, suc, ◌-◌, Bool, cond, not, ◌&&◌, List, [], ◌∷◌, ◌++◌, length, drop, Some, None, Ok, Err, Option, Result, ◌==◌, nat_le, slice_index}
+use Rattle.std.specs.Prelude.{◌≡◌, ℕ, zero, suc, ◌-◌, ◌<◌, Bool, cond, not, ◌&&◌, List, [], ◌∷◌, ◌++◌, length, drop, Some, None, Ok, Err, Option, Result, ◌==◌, nat_le, slice_index}
 use Rattle.channel_rules.specs.declared.records.Part.{Part}
 use Rattle.plate_file.specs.declared.reader.Run.TheVariants.{Blanks, Letters}
 use Rattle.plate_file.specs.declared.problem.Problem.{Problem}
@@ -48,6 +48,12 @@ closed written (b ∷ bs) = cond (goes_on bs) (Err BadName) (Ok written)
 abbrev pub opened : List ℕ → Result (List ℕ) Problem
 opened [] = Err MissingField
 opened (b ∷ bs) = cond (b == 34) (closed (front Letters bs) (past Letters bs)) (Err BadName)
+
+-- the next field begins with a quote, and this follows it
+pub record Opens (bs rest : List ℕ) : Type 0 where
+  pub some : 0 < length (past Blanks bs)
+  pub quote : slice_index (past Blanks bs) 0 ≡ 34
+  pub follows : rest ≡ drop 1 (past Blanks bs)
 
 -- what stands between the quotes of the next field
 abbrev pub written_in : List ℕ → Result (List ℕ) Problem

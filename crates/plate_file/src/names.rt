@@ -3,13 +3,29 @@ ghost use Rattle.std.specs.Prelude.{◌≡◌, ◌+◌, ◌<◌, ◌≤◌, ◌+
 ghost use Rattle.std.specs.Option.{option_map};
 ghost use Rattle.plate_file.specs.Reading.{unread, ahead};
 ghost use Rattle.plate_file.specs.Inside.{Inside};
-ghost use Rattle.plate_file.specs.Quoted.{is_plain, escape_in, letter_in, letter_size, letters_in, written_in, name_in, after_name, NameAdded};
+ghost use Rattle.plate_file.specs.Quoted.{is_plain, escape_in, letter_in, letter_size, letters_in, written_in, name_in, after_name, Opens, NameAdded};
 ghost use Rattle.plate_file.specs.Steps.{found, Fault};
 
 use crate::hex::hex_pair;
 use crate::problem::Problem;
 use crate::reader::{Reader, Run};
 use channel_rules::Part;
+
+// Takes the opening quote of the next field.
+fn open_quote(reader: &mut Reader<'_>) -> Result<(), Problem>
+    ensures len { ahead reader.new ≤ ahead reader.old }
+    ensures exact { MatchResult result (λ _. Opens (unread reader.old) (unread reader.new)) (λ problem. written_in (unread reader.old) ≡ Err problem) }
+{
+    reader.pass(Run::Blanks);
+    match reader.left {
+        [] => Err(Problem::MissingField),
+        [b'"', rest @ ..] => {
+            reader.left = rest;
+            Ok(())
+        }
+        _ => Err(Problem::BadName),
+    }
+}
 
 // Whether a byte stands for itself inside the quotes.
 pub(crate) fn is_plain(byte: u8) -> bool
@@ -71,12 +87,7 @@ fn between_quotes<'a>(reader: &mut Reader<'a>) -> Result<&'a [u8], Problem>
     ensures value { MatchResult result (λ written. written_in (unread reader.old) ≡ Ok written.now) (λ problem. written_in (unread reader.old) ≡ Err problem) }
     ensures after { OnOk result (unread reader.new ≡ after_name (unread reader.old)) }
 {
-    reader.pass(Run::Blanks);
-    match reader.left {
-        [] => return Err(Problem::MissingField),
-        [b'"', rest @ ..] => reader.left = rest,
-        _ => return Err(Problem::BadName),
-    }
+    open_quote(reader)?;
     let written = reader.pass(Run::Letters);
     let [_, rest @ ..] = reader.left else {
         return Err(Problem::BadName);

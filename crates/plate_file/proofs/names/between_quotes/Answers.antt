@@ -3,36 +3,36 @@ use Rattle.std.proofs.lemmas.List.{take_rest}
 use Rattle.plate_file.proofs.Quotes.{to_close, behind_name, never_closed, runs_on, stands}
 use Rattle.plate_file.proofs.names.between_quotes.Goals as goal
 
-pub returns-in_default-left : goal.returns-in_default-left
-returns-in_default-left c =
-    let q = c.pass.new.self.left.now in
+pub returns-in_default : goal.returns-in_default
+returns-in_default c =
+    let r = c.open_quote.new.reader.left.now in
     let e = c.pass-written.new.self.left.now in
     record {
       len = search rules;
-      value = to_close c.args.reader.now.left.now q _ e c.pass.ensures.after (take_rest q 1) c.pass-written.ensures.after (omega (arith, ltb-false)) (omega arith) ∙ never_closed _ e (omega (arith, ltb-true));
+      value = to_close c.args.reader.now.left.now r e c.in_ok-open_quote.ensures.exact c.pass-written.ensures.after ∙ never_closed _ e (omega (arith, ltb-true));
       after = tt;
     }
 
 pub returns-then-count-gt0 : goal.returns-then-count-gt0
 returns-then-count-gt0 c =
-    let q = c.pass.new.self.left.now in
+    let r = c.open_quote.new.reader.left.now in
     let e = c.pass-written.new.self.left.now in
     record {
       len = search rules;
       value =
-          to_close c.args.reader.now.left.now q _ e c.pass.ensures.after (take_rest q 1) c.pass-written.ensures.after (omega (arith, ltb-false)) (omega arith)
+          to_close c.args.reader.now.left.now r e c.in_ok-open_quote.ensures.exact c.pass-written.ensures.after
           ∙ runs_on _ e _ (omega (arith, ltb-false)) (take_rest e 1) (omega (arith, c.count.ensures));
       after = tt;
     }
 
 pub returns : goal.returns
 returns c =
-    let q = c.pass.new.self.left.now in
+    let r = c.open_quote.new.reader.left.now in
     let e = c.pass-written.new.self.left.now in
     record {
       len = search rules;
       value =
-          to_close c.args.reader.now.left.now q _ e c.pass.ensures.after (take_rest q 1) c.pass-written.ensures.after (omega (arith, ltb-false)) (omega arith)
+          to_close c.args.reader.now.left.now r e c.in_ok-open_quote.ensures.exact c.pass-written.ensures.after
           ∙ stands _ e _ (omega (arith, ltb-false)) (take_rest e 1) (omega (arith, c.count.ensures)) ∙ ap Ok (sym c.pass-written.ensures.front);
-      after = take_rest e 1 ∙ behind_name c.args.reader.now.left.now q _ e c.pass.ensures.after (take_rest q 1) c.pass-written.ensures.after;
+      after = take_rest e 1 ∙ behind_name c.args.reader.now.left.now r e c.in_ok-open_quote.ensures.exact c.pass-written.ensures.after;
     }
