@@ -1,8 +1,9 @@
 -- The triplets of the known prefixes are those of the channels.
-use Rattle.std.proofs.Common.{◌≡◌, ℕ, ◌+◌, ◌<◌, Bool, true, cond, ◌&&◌, List, [], ◌∷◌, ◌++◌, map, length, get_or, take, IfSome, Some, None, Option, sym, refl, ap, ◌∙◌, subst, arith}
+use Rattle.std.proofs.Common.{◌≡◌, ℕ, ◌<◌, Bool, true, cond, ◌&&◌, List, [], ◌∷◌, ◌++◌, map, length, get_or, IfSome, Some, None, Option, sym, refl, ap, ◌∙◌, subst, arith}
 use Rattle.std.specs.Option.{option_to_list}
 use Rattle.std.specs.List.{flat_map}
-use Rattle.std.proofs.lemmas.List.{take_all, take_more, flat_map_more, get_or-map, length-map}
+use Rattle.std.proofs.lemmas.List.Folds.{flat_map-map}
+use Rattle.std.proofs.lemmas.List.{take_all, get_or-map, length-map}
 use Rattle.channel_rules.specs.declared.records.ChannelDescription.{ChannelDescription}
 use Rattle.channel_rules.specs.declared.records.ChannelInfo.{ChannelInfo}
 use Rattle.channel_rules.specs.declared.records.IntegerBounds.{IntegerBounds}
@@ -15,16 +16,9 @@ use Rattle.channel_rules.specs.Sides.{info_in}
 use Rattle.channel_rules.specs.PrefixMap.{no_slots, no_known, slots_of, known_bytes, map_in, Met, Bounded, together_in, formed_by, formed_of}
 use Rattle.channel_rules.proofs.Picks.{last_place-is}
 
-joined_map : {X Y A : Type 0} (f : Y → List A) (g : X → Y) (xs : List X) → flat_map f (map g xs) ≡ flat_map (λ x. f (g x)) xs
-joined_map f g [] = refl
-joined_map f g (x ∷ xs) = ap (λ l. f (g x) ++ l) (joined_map f g xs)
-
-joined_same : {X A : Type 0} (f g : X → List A) → ((x : X) → f x ≡ g x) → (xs : List X) → flat_map f xs ≡ flat_map g xs
-joined_same f g e [] = refl
-joined_same f g e (x ∷ xs) = ap (λ l. l ++ flat_map f xs) (e x) ∙ ap (λ l. g x ++ l) (joined_same f g e xs)
-
-pub joined_step : {X A : Type 0} (f : X → List A) (xs : List X) (i : ℕ) (d : X) → i < length xs → flat_map f (take (i + 1) xs) ≡ flat_map f (take i xs) ++ f (get_or xs i d)
-joined_step f xs i d h = ap (flat_map f) (take_more xs i d h) ∙ sym (flat_map_more f [] (take i xs) (get_or xs i d))
+flat_map_same : {X A : Type 0} (f g : X → List A) → ((x : X) → f x ≡ g x) → (xs : List X) → flat_map f xs ≡ flat_map g xs
+flat_map_same f g e [] = refl
+flat_map_same f g e (x ∷ xs) = ap (λ l. l ++ flat_map f xs) (e x) ∙ ap (λ l. g x ++ l) (flat_map_same f g e xs)
 
 -- a place that is found lies in the list
 abbrev In : ℕ → Option ℕ → Type 0
@@ -84,9 +78,9 @@ module _ (text : List ℕ) (chs : List ChannelDescription) (rules : List Rule) w
 
       pub all_formed : formed_of chs infos ks ≡ triplets_in text chs rules
       all_formed =
-          sym (joined_map (λ v. option_to_list (formed_by chs infos v.1)) view ks)
+          sym (flat_map-map (λ v. option_to_list (formed_by chs infos v.1)) view ks)
           ∙ ap (flat_map (λ v. option_to_list (formed_by chs infos v.1))) views
-          ∙ joined_map (λ v. option_to_list (formed_by chs infos v.1)) pair (prefixes_in text chs)
-          ∙ joined_same (λ p. option_to_list (formed_by chs infos (slots_of text chs rules p))) (λ p. option_to_list (triplet_of text chs rules p))
+          ∙ flat_map-map (λ v. option_to_list (formed_by chs infos v.1)) pair (prefixes_in text chs)
+          ∙ flat_map_same (λ p. option_to_list (formed_by chs infos (slots_of text chs rules p))) (λ p. option_to_list (triplet_of text chs rules p))
           (λ p. ap option_to_list (three-same (length chs) (together_in chs infos) (go_together text chs rules) together_same _ _ _ (holder_in p 0) (holder_in p 1) (holder_in p 2)))
           (prefixes_in text chs)

@@ -1,9 +1,11 @@
 -- One channel more in the prefix map.
 use Rattle.std.proofs.Common.{◌≡◌, ℕ, zero, suc, ◌+◌, ◌<◌, Bool, true, false, cond, ◌&&◌, ◌||◌, ◌≢◌, List, [], ◌∷◌, ◌++◌, map, length, get_or, take, set, Some, None, Option, sym, refl, ap, ◌∙◌, subst, inl, inr, arith}
 use Rattle.std.specs.Option.{option_map, option_or}
-use Rattle.std.specs.List.{AllByRecursion as All}
+use Rattle.std.specs.List.{AllByRecursion as All, list_any}
+use Rattle.std.proofs.lemmas.List.Folds.{list_any_at, list_any_none}
+use Rattle.std.proofs.lemmas.List.Elements.{All-from_get_or as each-from_get_or}
 use Rattle.std.specs.Str.{bytes_eq}
-use Rattle.std.proofs.lemmas.List.{map_more, map-append, map-set, get_or-map, length-map, length-set, get_or-set_same, get_or-set_other, ext_get_or}
+use Rattle.std.proofs.lemmas.List.{get_or_default, map_more, map-append, map-set, get_or-map, length-map, length-set, get_or-set_same, get_or-set_other, ext_get_or}
 use Rattle.std.proofs.ByRecursion.{All-get_or, All-from_get_or, All-weaker, All-set, All-push}
 use Rattle.std.proofs.lemmas.Slice.Eq.{bytes_eq-Decides}
 use Rattle.std.proofs.lemmas.Bool.{cases_order, cases_eq}
@@ -12,27 +14,19 @@ use Rattle.channel_rules.specs.declared.records.Rule.{Rule}
 use Rattle.channel_rules.specs.declared.prefix_map.Slots.{Slots}
 use Rattle.channel_rules.specs.declared.prefix_map.KnownPrefix.{KnownPrefix}
 use Rattle.channel_rules.specs.Names.{prefix_in}
-use Rattle.channel_rules.specs.Picks.{some, last_place, distinct}
+use Rattle.channel_rules.specs.Picks.{last_place, distinct}
 use Rattle.channel_rules.specs.Triplets.{no_channel, writes, filled_by, holder, prefixes_in}
 use Rattle.channel_rules.specs.PrefixMap.{no_slots, no_known, stamp, stamped, slots_of, known_bytes, map_in}
-use Rattle.channel_rules.proofs.Picks.{nope, some_at, some-map, some-distinct, last_place-more, distinct_push}
+use Rattle.channel_rules.proofs.Picks.{nope, list_any-map, list_any-distinct, last_place-more, distinct_push}
 use Rattle.channel_rules.proofs.Pairs.{pairwise_at, pairwise_distinct}
 
-some-none : {X : Type 0} (test : X → Bool) (xs : List X) → All (λ x. test x ≡ false) xs → some test xs ≡ false
-some-none test [] a = refl
-some-none test (x ∷ xs) a = ap (λ b. b || some test xs) a.0 ∙ some-none test xs a.1
-
-all_some : {X : Type 0} (test : X → Bool) (xs : List X) → some test xs ≡ false → All (λ x. test x ≡ false) xs
-all_some test [] e = tt
-all_some test (x ∷ xs) e = at (test x) refl e (all_some test xs)
+none_any : {X : Type 0} (test : X → Bool) (xs : List X) → list_any test xs ≡ false → All (λ x. test x ≡ false) xs
+none_any test [] e = tt
+none_any test (x ∷ xs) e = at (test x) refl e (none_any test xs)
   where
-    at : (b : Bool) → test x ≡ b → (b || some test xs) ≡ false → (some test xs ≡ false → All (λ y. test y ≡ false) xs) → (test x ≡ false) × All (λ y. test y ≡ false) xs
+    at : (b : Bool) → test x ≡ b → (b || list_any test xs) ≡ false → (list_any test xs ≡ false → All (λ y. test y ≡ false) xs) → (test x ≡ false) × All (λ y. test y ≡ false) xs
     at true p q h = absurd (nope true refl q)
     at false p q h = (p, h q)
-
-map_twice : {X Y Z : Type 0} (f : Y → Z) (g : X → Y) (xs : List X) → map f (map g xs) ≡ map (λ x. f (g x)) xs
-map_twice f g [] = refl
-map_twice f g (x ∷ xs) = ap (◌∷◌ (f (g x))) (map_twice f g xs)
 
 map_same : {X Y : Type 0} (f g : X → Y) (xs : List X) → All (λ x. f x ≡ g x) xs → map f xs ≡ map g xs
 map_same f g [] a = refl
@@ -68,6 +62,10 @@ to_all n ks f = All-from_get_or (λ k. k.first < n) ks no_known f
 
 from_all : (n : ℕ) (ks : List KnownPrefix) → All (λ k. k.first < n) ks → Firsts n ks
 from_all n ks a k l = All-get_or (λ k. k.first < n) ks k no_known l a
+
+-- of a known prefix by its place
+pub first_at : (n : ℕ) (ks : List KnownPrefix) → Firsts n ks → (x : KnownPrefix) (k : ℕ) → k < length ks → x ≡ get_or ks k x → x.first < n
+first_at n ks f x k l e = subst (λ (y : KnownPrefix). y.first < n) (sym (e ∙ get_or_default ks k x no_known l)) (f k l)
 
 pub firsts_set : (n : ℕ) (ks : List KnownPrefix) (at : ℕ) (new : KnownPrefix) → Firsts n ks → new.first < n → Firsts n (set ks at new)
 firsts_set n ks at new f l = from_all n (set ks at new) (All-set (λ k. k.first < n) ks at new l (to_all n ks f))
@@ -110,11 +108,11 @@ module _ (text : List ℕ) (chs : List ChannelDescription) (rules : List Rule) (
   cong : (x y : List ℕ) → bytes_eq x y ≡ true → test x ≡ test y
   cong x y e = ap test ((bytes_eq-Decides x y).0 e)
 
-  list_more : (b : Bool) → some test D ≡ b → prefixes_in text (take (i + 1) chs) ≡ cond b D (D ++ own ∷ [])
+  list_more : (b : Bool) → list_any test D ≡ b → prefixes_in text (take (i + 1) chs) ≡ cond b D (D ++ own ∷ [])
   list_more b e =
       ap (distinct bytes_eq) (map_more (prefix_in text) chs i no_channel h)
       ∙ distinct_push bytes_eq (map (prefix_in text) (take i chs)) own
-      ∙ ap (λ x. cond x D (D ++ own ∷ [])) (sym (some-distinct bytes_eq test cong (map (prefix_in text) (take i chs))) ∙ e)
+      ∙ ap (λ x. cond x D (D ++ own ∷ [])) (sym (list_any-distinct bytes_eq test cong (map (prefix_in text) (take i chs))) ∙ e)
 
   long : (ks : List KnownPrefix) → Views ks → length ks ≡ length D
   long ks m = sym (length-map ks view) ∙ ap length m ∙ length-map D (g i)
@@ -128,11 +126,12 @@ module _ (text : List ℕ) (chs : List ChannelDescription) (rules : List Rule) (
   pub met_new : (ks : List KnownPrefix) → Views ks → ((k : ℕ) → k < length ks → known_bytes text chs (get_or ks k no_known) ≡ own → ⊥)
       → map view (ks ++ record { first = i; slots = stamped text rules c i no_slots } ∷ []) ≡ map_in text (take (i + 1) chs) rules
   met_new ks m e =
-      let none : All (λ p. test p ≡ false) D = All-from_get_or (λ p. test p ≡ false) D [] (λ k l.
+      let fails : (k : ℕ) → k < length D → test (get_or D k []) ≡ false = λ k l.
       let in' : k < length ks = omega (arith, long ks m) in
-      differs (get_or D k []) own (λ s. e k in' (ap (λ v. v.0) (view_at ks m k in') ∙ s))) in
-      let lone = some-none test D none in
-      let far = all_some (λ x. bytes_eq (prefix_in text x) own) (take i chs) (sym (some-map test (prefix_in text) (take i chs)) ∙ sym (some-distinct bytes_eq test cong (map (prefix_in text) (take i chs))) ∙ lone) in
+      differs (get_or D k []) own (λ s. e k in' (ap (λ v. v.0) (view_at ks m k in') ∙ s)) in
+      let none : All (λ p. test p ≡ false) D = All-from_get_or (λ p. test p ≡ false) D [] fails in
+      let lone = list_any_none test D (each-from_get_or (λ p. test p ≡ false) D [] fails) in
+      let far = none_any (λ x. bytes_eq (prefix_in text x) own) (take i chs) (sym (list_any-map test (prefix_in text) (take i chs)) ∙ sym (list_any-distinct bytes_eq test cong (map (prefix_in text) (take i chs))) ∙ lone) in
       let empty : (k : ℕ) → holder text (take i chs) rules own k ≡ None = λ k. last_place-none (filled_by text rules own k) (take i chs)
       (All-weaker (λ x. bytes_eq (prefix_in text x) own ≡ false) (λ x. filled_by text rules own k x ≡ false) (λ x q. ap (λ b. b && writes text rules k x) q) (take i chs) far) in
       let others : map (g (i + 1)) D ≡ map (g i) D = map_same (g (i + 1)) (g i) D
@@ -181,4 +180,4 @@ module _ (text : List ℕ) (chs : List ChannelDescription) (rules : List Rule) (
             ∙ ap (λ s. (get_or D j [], s)) (sym (slots_at (get_or D j []) false (apart j k n)))
             ∙ sym (get_or-map (g (i + 1)) D j [] ([], no_slots) k)
       ])
-      ∙ ap (map (g (i + 1))) (sym (list_more true (some_at test D at [] inside passes)))
+      ∙ ap (map (g (i + 1))) (sym (list_more true (list_any_at test D at [] inside passes)))

@@ -1,6 +1,5 @@
 pub mod Forming
 mod Growing
-mod Matched
 mod OneRule
 pub mod Pairs
 pub mod Picks

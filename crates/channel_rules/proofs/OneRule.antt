@@ -8,7 +8,8 @@ use Rattle.channel_rules.specs.Picks.{LastAt, last_place}
 use Rattle.channel_rules.specs.Rules.{is_for}
 use Rattle.channel_rules.specs.Triplets.{no_rule, is_slot, scheme_at, scheme_in, writes}
 use Rattle.channel_rules.specs.PrefixMap.{ruled, stamp, stamped}
-use Rattle.channel_rules.proofs.Picks.{last_place-more, last_place-is, some_more}
+use Rattle.channel_rules.proofs.Picks.{last_place-more, last_place-is}
+use Rattle.std.proofs.lemmas.List.Folds.{list_any_more}
 
 over : (a w : Bool) (x y : Option ℕ) → cond a x (cond w x y) ≡ cond (w || a) x y
 over true true x y = refl
@@ -46,7 +47,7 @@ module _ (text : List ℕ) (rules : List Rule) (own : ChannelDescription) (i : �
       ]
 
   written : (k : ℕ) → writes text (take (i + 1) rules) k own ≡ (writes text (take i rules) k own || (is_for text own (get_or rules i no_rule) && is_slot k (get_or rules i no_rule).csc_index))
-  written k = some_more (λ r. is_for text own r && is_slot k r.csc_index) rules i no_rule h
+  written k = list_any_more (λ r. is_for text own r && is_slot k r.csc_index) rules i no_rule h
 
   pub stamped-more : (n : ℕ) (s : Slots) → stamped text (take (i + 1) rules) own n s ≡ ruled (is_for text own (get_or rules i no_rule)) (get_or rules i no_rule).csc_index n (stamped text (take i rules) own n s)
   stamped-more n s =

@@ -1,26 +1,15 @@
--- One element more, for `some`, `last_place` and `distinct`; and what `last_place` finds.
+-- One element more, for `last_place` and `distinct`; and what `last_place` finds.
 use Rattle.std.proofs.Common.{◌≡◌, ℕ, zero, suc, ◌+◌, ◌<◌, Bool, true, false, cond, not, ◌||◌, List, [], ◌∷◌, ◌++◌, map, length, get_or, take, Some, None, filter, Option, sym, refl, ap, ◌∙◌, arith}
 use Rattle.std.specs.Option.{option_or, option_map}
+use Rattle.std.specs.List.{list_any}
 use Rattle.std.proofs.lemmas.List.{take_more, length-take-le, append-nil}
 use Rattle.std.proofs.lemmas.List.Elements.{filter-append}
-use Rattle.channel_rules.specs.Picks.{some, last_place, distinct, LastAt}
+use Rattle.channel_rules.specs.Picks.{last_place, distinct, LastAt}
 
 pub nope : (b : Bool) → b ≡ true → b ≡ false → ⊥
 nope b e f = let z : ◌≡◌ {A = ℕ} 0 1 = cc in omega arith
 
 module _ {X : Type 0} (test : X → Bool) where
-  pub some-push : (xs : List X) (x : X) → some test (xs ++ x ∷ []) ≡ (some test xs || test x)
-  some-push [] x = elim (test x) as (λ b. (b || false) ≡ (false || b)) [ true ↦ refl | false ↦ refl ]
-  some-push (y ∷ xs) x = elim (test y) as (λ b. (b || some test (xs ++ x ∷ [])) ≡ ((b || some test xs) || test x)) [ true ↦ refl | false ↦ some-push xs x ]
-
-  pub some_more : (xs : List X) (i : ℕ) (d : X) → i < length xs → some test (take (i + 1) xs) ≡ (some test (take i xs) || test (get_or xs i d))
-  some_more xs i d h = ap (some test) (take_more xs i d h) ∙ some-push (take i xs) (get_or xs i d)
-
-  pub some_at : (xs : List X) (i : ℕ) (d : X) → i < length xs → test (get_or xs i d) ≡ true → some test xs ≡ true
-  some_at [] i d h e = absurd (let z : ⊥ = omega arith in z)
-  some_at (x ∷ xs) zero d h e = simp e
-  some_at (x ∷ xs) (suc i) d h e = elim (test x) as (λ b. (b || some test xs) ≡ true) [ true ↦ refl | false ↦ some_at xs i d (omega arith) e ]
-
   pub last_place-push : (xs : List X) (x : X) → last_place test (xs ++ x ∷ []) ≡ cond (test x) (Some (length xs)) (last_place test xs)
   last_place-push [] x = elim (test x) as (λ b. option_or None (cond b (Some zero) None) ≡ cond b (Some 0) None) [ true ↦ refl | false ↦ refl ]
   last_place-push (y ∷ xs) x =
@@ -55,14 +44,14 @@ module _ {X : Type 0} (test : X → Bool) where
       at_cons None true e h = (omega arith, e, none h)
       at_cons None false e h = never e h
 
-pub some-map : {X Y : Type 0} (test : Y → Bool) (f : X → Y) (xs : List X) → some test (map f xs) ≡ some (λ x. test (f x)) xs
-some-map test f [] = refl
-some-map test f (x ∷ xs) = ap (λ b. test (f x) || b) (some-map test f xs)
+pub list_any-map : {X Y : Type 0} (test : Y → Bool) (f : X → Y) (xs : List X) → list_any test (map f xs) ≡ list_any (λ x. test (f x)) xs
+list_any-map test f [] = refl
+list_any-map test f (x ∷ xs) = ap (λ b. test (f x) || b) (list_any-map test f xs)
 
 module _ {X : Type 0} (same : X → X → Bool) where
-  pub distinct_push : (xs : List X) (x : X) → distinct same (xs ++ x ∷ []) ≡ cond (some (λ y. same y x) xs) (distinct same xs) (distinct same xs ++ x ∷ [])
+  pub distinct_push : (xs : List X) (x : X) → distinct same (xs ++ x ∷ []) ≡ cond (list_any (λ y. same y x) xs) (distinct same xs) (distinct same xs ++ x ∷ [])
   distinct_push [] x = refl
-  distinct_push (y ∷ xs) x = ap (λ l. y ∷ filter (λ z. not (same y z)) l) (distinct_push xs x) ∙ at_cons (some (λ z. same z x) xs) (same y x) refl
+  distinct_push (y ∷ xs) x = ap (λ l. y ∷ filter (λ z. not (same y z)) l) (distinct_push xs x) ∙ at_cons (list_any (λ z. same z x) xs) (same y x) refl
     where
       test : X → Bool
       test z = not (same y z)
@@ -77,19 +66,19 @@ module _ {X : Type 0} (same : X → X → Bool) where
 
 -- a test that goes by the bytes finds the same without the repeats
 module _ {X : Type 0} (same : X → X → Bool) (test : X → Bool) (cong : (x y : X) → same x y ≡ true → test x ≡ test y) where
-  some-kept : (x : X) → test x ≡ false → (ys : List X) → some test (filter (λ y. not (same x y)) ys) ≡ some test ys
-  some-kept x e [] = refl
-  some-kept x e (y ∷ ys) = at (same x y) refl (some-kept x e ys)
+  list_any-kept : (x : X) → test x ≡ false → (ys : List X) → list_any test (filter (λ y. not (same x y)) ys) ≡ list_any test ys
+  list_any-kept x e [] = refl
+  list_any-kept x e (y ∷ ys) = at (same x y) refl (list_any-kept x e ys)
     where
-      at : (b : Bool) → same x y ≡ b → some test (filter (λ z. not (same x z)) ys) ≡ some test ys
-          → some test (cond (not b) (y ∷ filter (λ z. not (same x z)) ys) (filter (λ z. not (same x z)) ys)) ≡ (test y || some test ys)
-      at true p h = h ∙ sym (ap (λ b. b || some test ys) (sym (cong x y p) ∙ e))
+      at : (b : Bool) → same x y ≡ b → list_any test (filter (λ z. not (same x z)) ys) ≡ list_any test ys
+          → list_any test (cond (not b) (y ∷ filter (λ z. not (same x z)) ys) (filter (λ z. not (same x z)) ys)) ≡ (test y || list_any test ys)
+      at true p h = h ∙ sym (ap (λ b. b || list_any test ys) (sym (cong x y p) ∙ e))
       at false p h = ap (λ b. test y || b) h
 
-  pub some-distinct : (xs : List X) → some test (distinct same xs) ≡ some test xs
-  some-distinct [] = refl
-  some-distinct (x ∷ xs) = at (test x) refl (some-distinct xs)
+  pub list_any-distinct : (xs : List X) → list_any test (distinct same xs) ≡ list_any test xs
+  list_any-distinct [] = refl
+  list_any-distinct (x ∷ xs) = at (test x) refl (list_any-distinct xs)
     where
-      at : (b : Bool) → test x ≡ b → some test (distinct same xs) ≡ some test xs → (b || some test (filter (λ y. not (same x y)) (distinct same xs))) ≡ (b || some test xs)
+      at : (b : Bool) → test x ≡ b → list_any test (distinct same xs) ≡ list_any test xs → (b || list_any test (filter (λ y. not (same x y)) (distinct same xs))) ≡ (b || list_any test xs)
       at true p h = refl
-      at false p h = some-kept x p (distinct same xs) ∙ h
+      at false p h = list_any-kept x p (distinct same xs) ∙ h

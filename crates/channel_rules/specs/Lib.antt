@@ -1,3 +1,4 @@
+pub mod Slots
 pub mod Names
 pub mod Rules
 pub mod Picks

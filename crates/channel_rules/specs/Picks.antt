@@ -1,5 +1,5 @@
 -- The first and the last of a list that pass a test, and a list without its repeats.
-use Rattle.std.specs.Prelude.{ℕ, suc, ◌<◌, Bool, false, cond, not, ◌||◌, List, [], ◌∷◌, Some, None, filter, Option}
+use Rattle.std.specs.Prelude.{ℕ, suc, ◌<◌, Bool, cond, not, List, [], ◌∷◌, Some, None, filter, Option}
 use Rattle.std.specs.Option.{option_or, option_map}
 
 -- the first place below n at which P holds, or None where it holds at none
@@ -11,11 +11,6 @@ FirstAt n P (Some k) = (k < n) × P k × ((i : ℕ) → i < k → P i → ⊥)
 abbrev pub LastAt : ℕ → (ℕ → Type 0) → Option ℕ → Type 0
 LastAt n P None = (i : ℕ) → i < n → P i → ⊥
 LastAt n P (Some k) = (k < n) × P k × ((i : ℕ) → k < i → i < n → P i → ⊥)
-
--- whether one passes
-abbrev pub some : {X : Type 0} → (X → Bool) → List X → Bool
-some test [] = false
-some test (x ∷ xs) = test x || some test xs
 
 -- the place of the last that passes
 abbrev pub last_place : {X : Type 0} → (X → Bool) → List X → Option ℕ

@@ -2,7 +2,7 @@
 use Rattle.std.specs.Prelude.{ℕ, ◌<◌, Bool, true, false, cond, ◌&&◌, List, map, length, slice_index_or, Some, None, Option, ◌==◌}
 use Rattle.std.specs.Option.{option_to_list}
 use Rattle.std.specs.Str.{bytes_eq}
-use Rattle.std.specs.List.{flat_map}
+use Rattle.std.specs.List.{flat_map, list_any}
 use Rattle.channel_rules.specs.declared.records.ChannelDescription.{ChannelDescription}
 use Rattle.channel_rules.specs.declared.records.ChannelInfo.{ChannelInfo}
 use Rattle.channel_rules.specs.declared.records.Rule.{Rule}
@@ -12,7 +12,7 @@ use Rattle.channel_rules.specs.declared.records.CompressorScheme.TheVariants.{Un
 use Rattle.channel_rules.specs.declared.records.SampleType.TheVariants.{U32}
 use Rattle.channel_rules.specs.Names.{Inside, prefix_in}
 use Rattle.channel_rules.specs.Rules.{is_for}
-use Rattle.channel_rules.specs.Picks.{some, last_place, distinct}
+use Rattle.channel_rules.specs.Picks.{last_place, distinct}
 
 -- a rule of zeros, for a place that is past the end
 abbrev pub no_rule : Rule
@@ -60,7 +60,7 @@ is_slot slot (Some own) = own == slot
 
 -- some rule for the channel has the slot
 abbrev pub writes : List ℕ → List Rule → ℕ → ChannelDescription → Bool
-writes text rules slot c = some (λ r. is_for text c r && is_slot slot r.csc_index) rules
+writes text rules slot c = list_any (λ r. is_for text c r && is_slot slot r.csc_index) rules
 
 -- the channel has the prefix, and is written into the slot
 abbrev pub filled_by : List ℕ → List Rule → List ℕ → ℕ → ChannelDescription → Bool

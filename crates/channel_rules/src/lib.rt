@@ -7,10 +7,14 @@ mod names;
 mod prefix_map;
 mod records;
 mod shown;
+mod slot;
+mod sound;
 
-pub use listing::{list_channels, list_triplets};
+pub use listing::{Listed, list_channels, list_triplets};
 pub use prefix_map::{KnownPrefix, Slots};
 pub use records::{
-    ChannelDescription, ChannelInfo, CompressorScheme, IntegerBounds, Part, Rule, SampleType,
-    Triplet,
+    ChannelDescription, ChannelInfo, Chunk, CompressorScheme, IntegerBounds, Part, Rule,
+    SampleType, Triplet,
 };
+pub use slot::{NoSuchSlot, Slot};
+pub use sound::SoundChunk;

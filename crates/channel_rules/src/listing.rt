@@ -1,13 +1,12 @@
 // The two lists that a roll holds: its channels and its triplets.
 ghost use Rattle.std.specs.Prelude.{◌≡◌, ℕ, ◌+◌, ◌<◌, ◌≤◌, [], map, length, vec_len, vec_capacity, slice_index_or};
-ghost use Rattle.channel_rules.specs.Triplets.{Named, Suffixed, same_steps, is_lossy};
+ghost use Rattle.channel_rules.specs.Triplets.{same_steps, is_lossy};
 ghost use Rattle.channel_rules.specs.Sides.{side, info_in};
 ghost use Rattle.channel_rules.specs.PrefixMap.{no_known, Met, Bounded, together_in, formed_by, formed_of};
 
 use crate::prefix_map::{KnownPrefix, Slots, meet};
-use crate::records::{
-    ChannelDescription, ChannelInfo, CompressorScheme, IntegerBounds, Rule, Triplet,
-};
+use crate::records::{ChannelDescription, ChannelInfo, CompressorScheme, Triplet};
+use crate::sound::SoundChunk;
 
 // A side of the chunk divided by the step, rounded up.
 fn side_of(chunk_side: usize, step: usize) -> usize
@@ -20,33 +19,23 @@ fn side_of(chunk_side: usize, step: usize) -> usize
 pub fn list_channels(
     infos: &mut Vec<ChannelInfo>,
     known: &mut Vec<KnownPrefix>,
-    text: &[u8],
-    channels: &[ChannelDescription],
-    rules: &[Rule],
-    rectangle: &IntegerBounds,
+    chunk: &SoundChunk<'_>,
 )
-    requires named { Named text.now channels.now }
-    requires suffixed { Suffixed text.now rules.now }
     requires empty { (infos.old.items ≡ []) × (known.old.items ≡ []) }
-    requires room { (length channels.now ≤ vec_capacity infos.old) × (length channels.now ≤ vec_capacity known.old) }
-    ensures items { infos.new.items ≡ map (info_in text.now rules.now rectangle.now) channels.now }
-    ensures met { Met text.now channels.now rules.now (length channels.now) known.new.items }
-    ensures short { vec_len known.new ≤ length channels.now }
+    requires room { (length chunk.now.records.channels.now ≤ vec_capacity infos.old) × (length chunk.now.records.channels.now ≤ vec_capacity known.old) }
+    ensures items { infos.new.items ≡ map (info_in chunk.now.records.text.now chunk.now.records.rules.now chunk.now.records.rectangle) chunk.now.records.channels.now }
+    ensures met { Met chunk.now.records.text.now chunk.now.records.channels.now chunk.now.records.rules.now (length chunk.now.records.channels.now) known.new.items }
+    ensures short { vec_len known.new ≤ length chunk.now.records.channels.now }
     ensures capacity { (vec_capacity infos.new ≡ vec_capacity infos.old) × (vec_capacity known.new ≡ vec_capacity known.old) }
 {
-    for index in 0..channels.len() {
-        let channel = channels[index];
-        let scheme = meet(text, channels, rules, index, known);
-        let width = side_of(rectangle.width, channel.x_sampling);
-        let height = side_of(rectangle.height, channel.y_sampling);
-        let sample_type = channel.sample_type;
-        let quantize_linearly = channel.quantize_linearly;
+    let rectangle = chunk.records.rectangle;
+    for (index, channel) in chunk.records.channels.iter().enumerate() {
         infos.push_reserved(ChannelInfo {
-            scheme,
-            width,
-            height,
-            sample_type,
-            quantize_linearly,
+            scheme: meet(chunk, index, known),
+            width: side_of(rectangle.width, channel.x_sampling),
+            height: side_of(rectangle.height, channel.y_sampling),
+            sample_type: channel.sample_type,
+            quantize_linearly: channel.quantize_linearly,
         });
     }
 }
@@ -59,67 +48,61 @@ impl ChannelInfo {
     }
 }
 
+// Two fields of five: derived equality would compare names and types too.
 fn have_same_steps(a: &ChannelDescription, b: &ChannelDescription) -> bool
     ensures { result ≡ same_steps a.now b.now }
 {
     a.x_sampling == b.x_sampling && a.y_sampling == b.y_sampling
 }
 
-// Three lossy channels with equal steps.
-fn go_together(
-    channels: &[ChannelDescription],
-    infos: &[ChannelInfo],
-    i: usize,
-    j: usize,
-    k: usize,
-) -> bool
-    requires within { (i < length channels.now) × ((j < length channels.now) × (k < length channels.now)) }
-    requires listed { length infos.now ≡ length channels.now }
-    ensures { result ≡ together_in channels.now infos.now i j k }
-{
-    infos[i].is_lossy()
-        && infos[j].is_lossy()
-        && infos[k].is_lossy()
-        && have_same_steps(&channels[i], &channels[j])
-        && have_same_steps(&channels[i], &channels[k])
+// Channels, and what is kept of each.
+#[derive(Clone, Copy)]
+pub struct Listed<'a> {
+    pub channels: &'a [ChannelDescription],
+    pub infos: &'a [ChannelInfo],
+    ghost each: { length infos.now ≡ length channels.now },
 }
 
-// The triplet of these slots, where one forms.
-fn triplet_in(
-    channels: &[ChannelDescription],
-    infos: &[ChannelInfo],
-    slots: &Slots,
-) -> Option<Triplet>
-    requires within { Bounded (length channels.now) slots.now }
-    requires listed { length infos.now ≡ length channels.now }
-    ensures { result ≡ formed_by channels.now infos.now slots.now }
-{
-    let r = slots.r?;
-    let g = slots.g?;
-    let b = slots.b?;
-    if go_together(channels, infos, r, g, b) {
-        Some(Triplet { r, g, b })
-    } else {
-        None
+impl Listed<'_> {
+    // Three lossy channels with equal steps.
+    fn go_together(&self, t: &Triplet) -> bool
+        requires within { (t.now.r < length self.now.channels.now) × ((t.now.g < length self.now.channels.now) × (t.now.b < length self.now.channels.now)) }
+        ensures { result ≡ together_in self.now.channels.now self.now.infos.now t.now.r t.now.g t.now.b }
+    {
+        self.infos[t.r].is_lossy()
+            && self.infos[t.g].is_lossy()
+            && self.infos[t.b].is_lossy()
+            && have_same_steps(&self.channels[t.r], &self.channels[t.g])
+            && have_same_steps(&self.channels[t.r], &self.channels[t.b])
+    }
+
+    // The triplet of these slots, where one forms.
+    fn triplet_in(&self, slots: &Slots) -> Option<Triplet>
+        requires within { Bounded (length self.now.channels.now) slots.now }
+        ensures { result ≡ formed_by self.now.channels.now self.now.infos.now slots.now }
+    {
+        let r = slots.r?;
+        let g = slots.g?;
+        let b = slots.b?;
+        let triplet = Triplet { r, g, b };
+        if self.go_together(&triplet) {
+            Some(triplet)
+        } else {
+            None
+        }
     }
 }
 
 // Lists the triplets that form, in the order of the known prefixes.
-pub fn list_triplets(
-    out: &mut Vec<Triplet>,
-    channels: &[ChannelDescription],
-    infos: &[ChannelInfo],
-    known: &[KnownPrefix],
-)
-    requires within { (k : ℕ) → k < length known.now → Bounded (length channels.now) (slice_index_or known.now k no_known).slots }
-    requires listed { length infos.now ≡ length channels.now }
+pub fn list_triplets(out: &mut Vec<Triplet>, listed: &Listed<'_>, known: &[KnownPrefix])
+    requires within { (k : ℕ) → k < length known.now → Bounded (length listed.now.channels.now) (slice_index_or known.now k no_known).slots }
     requires empty { out.old.items ≡ [] }
     requires room { length known.now ≤ vec_capacity out.old }
-    ensures items { out.new.items ≡ formed_of channels.now infos.now known.now }
+    ensures items { out.new.items ≡ formed_of listed.now.channels.now listed.now.infos.now known.now }
     ensures capacity { vec_capacity out.new ≡ vec_capacity out.old }
 {
     for met in known {
-        if let Some(triplet) = triplet_in(channels, infos, &met.slots) {
+        if let Some(triplet) = listed.triplet_in(&met.slots) {
             out.push_reserved(triplet);
         }
     }

@@ -9,11 +9,9 @@ fn prefix_len(name: &[u8]) -> usize
     ensures splits { Splits name.now result }
     ensures value { result ≡ cut name.now }
 {
-    let mut n = name.len();
-    while n > 0 && name[n - 1] != b'.' {
-        n -= 1;
-    }
-    n
+    name.iter()
+        .rposition(|byte| *byte == b'.')
+        .map_or(0, |dot| dot + 1)
 }
 
 impl Part {
@@ -39,6 +37,6 @@ impl ChannelDescription {
         ensures value { result.now ≡ prefix_in text.now self.now }
     {
         let name = self.name.of(text);
-        &name[0..prefix_len(name)]
+        &name[..prefix_len(name)]
     }
 }

@@ -8,8 +8,8 @@ pub enum SampleType {
     F32,
 }
 
-// How a channel is compressed in the chunk.
-#[derive(Clone, Copy)]
+// How a channel is compressed in the chunk. `Unknown` is a scheme that a rule can give, so no `Option` stands for it.
+#[derive(Clone, Copy, PartialEq, Eq)]
 pub enum CompressorScheme {
     Unknown,
     LossyDct,
@@ -39,7 +39,7 @@ pub struct Rule {
     pub suffix: Part,
     pub scheme: CompressorScheme,
     pub sample_type: SampleType,
-    // The slot of a colour triplet that matching channels are written into: 0, 1 or 2.
+    // The slot of a colour triplet that matching channels are written into. A number and no `Slot`, since rules are not trusted.
     pub csc_index: Option<usize>,
     pub case_insensitive: bool,
 }
@@ -51,6 +51,16 @@ pub struct IntegerBounds {
     pub top: i32,
     pub width: usize,
     pub height: usize,
+}
+
+// What a chunk is described by.
+#[derive(Clone, Copy)]
+pub struct Chunk<'a> {
+    // All names and suffixes, end to end.
+    pub text: &'a [u8],
+    pub channels: &'a [ChannelDescription],
+    pub rules: &'a [Rule],
+    pub rectangle: IntegerBounds,
 }
 
 // What a roll keeps of a channel.

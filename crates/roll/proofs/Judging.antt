@@ -57,7 +57,7 @@ module _ (text : List ℕ) (chs : List ChannelDescription) (rules : List Rule) (
       | inr p ↦ (let t = subst S p.1 s in none p.0 t.0 t.1)
     ]
 
-    pub doubled : (k : ℕ) → FirstAt (length chs) (Doubled (triplets_in text chs rules)) (Some k) → Judged text chs rules bounds (Err (HeldTwice k))
+    pub doubled : (k : ℕ) → FirstAt (length chs) (Doubled (triplets_in text chs rules)) (Some k) → Judged {A = Unit {0}} text chs rules bounds (Err (HeldTwice k))
     doubled k d = (
       (d.0, d.1),
       λ e E s. elim (above e) [

@@ -2,7 +2,8 @@
 use Rattle.std.proofs.Common.{◌≡◌, ℕ, zero, suc, ◌+◌, ◌*◌, ◌/◌, ◌%◌, ◌<◌, ◌≤◌, min, Bool, true, false, cond, not, ◌&&◌, ◌||◌, eqb, List, [], ◌∷◌, map, length, get_or, Some, None, Decides, filter, Option, sym, refl, ap, ◌∙◌, subst, inl, inr, mul-le-mul_right, mod-lt, suc-mul, mul_comm, add-mul, arith, eq-eqb, true-eqb}
 use native.Mathlib.Nat.{div-add-mod, le-max_right}
 use Rattle.std.specs.Char.{to_ascii_lowercase}
-use Rattle.std.specs.List.{AllByRecursion as All}
+use Rattle.std.specs.List.{AllByRecursion as All, list_any}
+use Rattle.std.proofs.lemmas.List.Folds.{list_any_at}
 use Rattle.std.specs.Str.{bytes_eq}
 use Rattle.std.proofs.ByRecursion.{All-weaker, kept_by_passes}
 use Rattle.std.proofs.lemmas.Slice.Eq.{bytes_eq-Decides}
@@ -13,12 +14,12 @@ use Rattle.channel_rules.specs.declared.records.SampleType.{SampleType}
 use Rattle.channel_rules.specs.declared.records.SampleType.TheVariants.{U32, F16, F32}
 use Rattle.channel_rules.specs.Names.{bytes, Splits, cut, prefix_in}
 use Rattle.channel_rules.specs.Rules.{same_type, same_name, matched, is_for}
-use Rattle.channel_rules.specs.Picks.{LastAt, some, last_place, distinct}
+use Rattle.channel_rules.specs.Picks.{LastAt, last_place, distinct}
 use Rattle.channel_rules.specs.Triplets.{no_channel, no_rule, is_slot, writes, filled_by, holder}
 use Rattle.channel_rules.specs.Sides.{effective, side, LeastCover}
 use Rattle.roll.specs.Laws.{Equal, Fills, Before, FirstAppearances, Laws}
 use Rattle.channel_rules.proofs.Pairs.{Pairwise, pairwise_at, pairwise_kept}
-use Rattle.channel_rules.proofs.Picks.{nope, some_at, some-distinct, last_place-is}
+use Rattle.channel_rules.proofs.Picks.{nope, list_any-distinct, last_place-is}
 
 -- splitting
 module _ (b : ℕ) (bs : List ℕ) where
@@ -92,11 +93,11 @@ last_decided : (n : ℕ) (P Q : ℕ → Type 0) → ((i : ℕ) → P i → Q i) 
 last_decided n P Q f g None l = λ i h q. l i h (g i q)
 last_decided n P Q f g (Some k) l = (l.0, f k l.1, λ i h u q. l.2 i h u (g i q))
 
-some-index : {X : Type 0} (test : X → Bool) (xs : List X) (d : X) → some test xs ≡ true → (k : ℕ) × (k < length xs) × (test (get_or xs k d) ≡ true)
-some-index test [] d e = absurd (nope false e refl)
-some-index test (x ∷ xs) d e = at (test x) refl e (some-index test xs d)
+list_any-index : {X : Type 0} (test : X → Bool) (xs : List X) (d : X) → list_any test xs ≡ true → (k : ℕ) × (k < length xs) × (test (get_or xs k d) ≡ true)
+list_any-index test [] d e = absurd (nope false e refl)
+list_any-index test (x ∷ xs) d e = at (test x) refl e (list_any-index test xs d)
   where
-    at : (b : Bool) → test x ≡ b → (b || some test xs) ≡ true → (some test xs ≡ true → (k : ℕ) × (k < length xs) × (test (get_or xs k d) ≡ true))
+    at : (b : Bool) → test x ≡ b → (b || list_any test xs) ≡ true → (list_any test xs ≡ true → (k : ℕ) × (k < length xs) × (test (get_or xs k d) ≡ true))
         → (k : ℕ) × (k < length (x ∷ xs)) × (test (get_or (x ∷ xs) k d) ≡ true)
     at true p q h = (0, omega arith, p)
     at false p q h = let r = h q in (suc r.0, omega (arith, r.1), r.2)
@@ -115,8 +116,8 @@ module _ (text : List ℕ) (rules : List Rule) (prefix : List ℕ) (slot : ℕ) 
   fills : Decides (filled_by text rules prefix slot c) (Fills text rules prefix slot c)
   fills =
       both_decide (bytes_eq (prefix_in text c) prefix) (writes text rules slot c) (bytes_eq-Decides (prefix_in text c) prefix) (
-        (λ e. let r = some-index test rules no_rule e in let d = (rule_decides (get_or rules r.0 no_rule)).0 r.2 in (r.0, r.1, d.0, d.1)),
-        (λ h. some_at test rules h.0 no_rule h.1 ((rule_decides (get_or rules h.0 no_rule)).1 (h.2, h.3))),
+        (λ e. let r = list_any-index test rules no_rule e in let d = (rule_decides (get_or rules r.0 no_rule)).0 r.2 in (r.0, r.1, d.0, d.1)),
+        (λ h. list_any_at test rules h.0 no_rule h.1 ((rule_decides (get_or rules h.0 no_rule)).1 (h.2, h.3))),
       )
 
 -- first appearance
@@ -162,14 +163,14 @@ first_appearances names = record {
   ordered = λ j k l h. pairwise_at (Before names) (distinct bytes_eq names) j k [] l h (in_order names);
 }
   where
-    kept : (y : List ℕ) → some (λ p. bytes_eq p y) (distinct bytes_eq names) ≡ some (λ p. bytes_eq p y) names
-    kept y = some-distinct bytes_eq (λ p. bytes_eq p y) (λ a b e. ap (λ p. bytes_eq p y) ((bytes_eq-Decides a b).0 e)) names
+    kept : (y : List ℕ) → list_any (λ p. bytes_eq p y) (distinct bytes_eq names) ≡ list_any (λ p. bytes_eq p y) names
+    kept y = list_any-distinct bytes_eq (λ p. bytes_eq p y) (λ a b e. ap (λ p. bytes_eq p y) ((bytes_eq-Decides a b).0 e)) names
 
     -- what stands in one list stands in another that passes the same tests
-    found : (y : List ℕ) (xs ys : List (List ℕ)) → some (λ p. bytes_eq p y) xs ≡ some (λ p. bytes_eq p y) ys
+    found : (y : List ℕ) (xs ys : List (List ℕ)) → list_any (λ p. bytes_eq p y) xs ≡ list_any (λ p. bytes_eq p y) ys
         → (i : ℕ) × (i < length xs) × (get_or xs i [] ≡ y) → (k : ℕ) × (k < length ys) × (get_or ys k [] ≡ y)
     found y xs ys e h =
-        let r = some-index (λ p. bytes_eq p y) ys [] (sym e ∙ some_at (λ p. bytes_eq p y) xs h.0 [] h.1 ((bytes_eq-Decides (get_or xs h.0 []) y).1 h.2)) in
+        let r = list_any-index (λ p. bytes_eq p y) ys [] (sym e ∙ list_any_at (λ p. bytes_eq p y) xs h.0 [] h.1 ((bytes_eq-Decides (get_or xs h.0 []) y).1 h.2)) in
         (r.0, r.1, (bytes_eq-Decides (get_or ys r.0 []) y).0 r.2)
 
 -- sides

@@ -1,11 +1,13 @@
 // What is turned down before any name is looked at.
-ghost use Rattle.std.specs.Prelude.{◌≡◌, length, slice_index_or, Decides};
+ghost use Rattle.std.specs.Prelude.{◌≡◌, length, slice_index_or, Decides, IfOk};
 ghost use Rattle.channel_rules.specs.Picks.{FirstAt};
 ghost use Rattle.channel_rules.specs.Triplets.{no_channel, no_rule};
 ghost use Rattle.roll.specs.Refusals.{Outside, LongStep, OddSlot, Multiple, Astray, JudgedRecords, Twice, Doubled};
 
 use crate::refusal::{Concerned, Refusal};
-use channel_rules::{ChannelDescription, IntegerBounds, Part, Rule, Triplet};
+use channel_rules::{
+    ChannelDescription, Chunk, IntegerBounds, Part, Rule, Slot, SoundChunk, Triplet,
+};
 
 fn is_outside(text: &[u8], part: &Part) -> bool
     ensures { Decides result (Outside text.now part.now) }
@@ -13,26 +15,22 @@ fn is_outside(text: &[u8], part: &Part) -> bool
     part.start > text.len() || part.len > text.len() - part.start || part.len > 255
 }
 
-fn outside_name(text: &[u8], channels: &[ChannelDescription]) -> Option<usize>
-    ensures { FirstAt (length channels.now) (λ i. Outside text.now (slice_index_or channels.now i no_channel).name) result }
+fn outside_name(chunk: &Chunk<'_>) -> Option<usize>
+    ensures { FirstAt (length chunk.now.channels.now) (λ i. Outside chunk.now.text.now (slice_index_or chunk.now.channels.now i no_channel).name) result }
 {
-    for (index, channel) in channels.iter().enumerate() {
-        if is_outside(text, &channel.name) {
-            return Some(index);
-        }
-    }
-    None
+    chunk
+        .channels
+        .iter()
+        .position(|channel| is_outside(chunk.text, &channel.name))
 }
 
-fn outside_suffix(text: &[u8], rules: &[Rule]) -> Option<usize>
-    ensures { FirstAt (length rules.now) (λ j. Outside text.now (slice_index_or rules.now j no_rule).suffix) result }
+fn outside_suffix(chunk: &Chunk<'_>) -> Option<usize>
+    ensures { FirstAt (length chunk.now.rules.now) (λ j. Outside chunk.now.text.now (slice_index_or chunk.now.rules.now j no_rule).suffix) result }
 {
-    for (index, rule) in rules.iter().enumerate() {
-        if is_outside(text, &rule.suffix) {
-            return Some(index);
-        }
-    }
-    None
+    chunk
+        .rules
+        .iter()
+        .position(|rule| is_outside(chunk.text, &rule.suffix))
 }
 
 fn has_long_step(channel: &ChannelDescription) -> bool
@@ -41,37 +39,26 @@ fn has_long_step(channel: &ChannelDescription) -> bool
     channel.x_sampling > 8192 || channel.y_sampling > 8192
 }
 
-fn long_step(channels: &[ChannelDescription]) -> Option<usize>
-    ensures { FirstAt (length channels.now) (λ i. LongStep (slice_index_or channels.now i no_channel)) result }
+fn long_step(chunk: &Chunk<'_>) -> Option<usize>
+    ensures { FirstAt (length chunk.now.channels.now) (λ i. LongStep (slice_index_or chunk.now.channels.now i no_channel)) result }
 {
-    for (index, channel) in channels.iter().enumerate() {
-        if has_long_step(channel) {
-            return Some(index);
-        }
-    }
-    None
+    chunk.channels.iter().position(has_long_step)
 }
 
 fn has_odd_slot(rule: &Rule) -> bool
     ensures { Decides result (OddSlot rule.now) }
 {
-    match rule.csc_index {
-        Some(slot) => slot > 2,
-        None => false,
-    }
+    rule.csc_index
+        .is_some_and(|slot| Slot::try_from(slot).is_err())
 }
 
-fn odd_slot(rules: &[Rule]) -> Option<usize>
-    ensures { FirstAt (length rules.now) (λ j. OddSlot (slice_index_or rules.now j no_rule)) result }
+fn odd_slot(chunk: &Chunk<'_>) -> Option<usize>
+    ensures { FirstAt (length chunk.now.rules.now) (λ j. OddSlot (slice_index_or chunk.now.rules.now j no_rule)) result }
 {
-    for (index, rule) in rules.iter().enumerate() {
-        if has_odd_slot(rule) {
-            return Some(index);
-        }
-    }
-    None
+    chunk.rules.iter().position(has_odd_slot)
 }
 
+// `as`, since no `From` leads from u32 to usize.
 fn is_multiple(place: i32, step: usize) -> bool
     ensures { Decides result (Multiple place step) }
 {
@@ -85,48 +72,43 @@ fn is_astray(rectangle: &IntegerBounds, channel: &ChannelDescription) -> bool
         || !is_multiple(rectangle.top, channel.y_sampling)
 }
 
-fn astray(rectangle: &IntegerBounds, channels: &[ChannelDescription]) -> Option<usize>
-    ensures { FirstAt (length channels.now) (λ i. Astray rectangle.now (slice_index_or channels.now i no_channel)) result }
+fn astray(chunk: &Chunk<'_>) -> Option<usize>
+    ensures { FirstAt (length chunk.now.channels.now) (λ i. Astray chunk.now.rectangle (slice_index_or chunk.now.channels.now i no_channel)) result }
 {
-    for (index, channel) in channels.iter().enumerate() {
-        if is_astray(rectangle, channel) {
-            return Some(index);
-        }
-    }
-    None
+    chunk
+        .channels
+        .iter()
+        .position(|channel| is_astray(&chunk.rectangle, channel))
 }
 
-// Refusals 1 to 6, in their order.
-pub(crate) fn check_records(
-    text: &[u8],
-    channels: &[ChannelDescription],
-    rules: &[Rule],
-    rectangle: &IntegerBounds,
-) -> Result<(), Refusal>
-    ensures { JudgedRecords text.now channels.now rules.now rectangle.now result }
+// Refusals 1 to 6, in their order. A chunk that passes is sound.
+pub(crate) fn check_records<'a>(chunk: &Chunk<'a>) -> Result<SoundChunk<'a>, Refusal>
+    ensures answer { JudgedRecords chunk.now.text.now chunk.now.channels.now chunk.now.rules.now chunk.now.rectangle result }
+    ensures same { IfOk result (λ sound. sound.records ≡ chunk.now) }
 {
-    if channels.len() > 64 || rules.len() > 64 {
+    let rectangle = chunk.rectangle;
+    if chunk.channels.len() > 64 || chunk.rules.len() > 64 {
         return Err(Refusal::TooMany);
     }
     if rectangle.width > 8192 || rectangle.height > 8192 {
         return Err(Refusal::ChunkTooLarge);
     }
-    if let Some(index) = outside_name(text, channels) {
+    if let Some(index) = outside_name(chunk) {
         return Err(Refusal::OutsideText(Concerned::Channel(index)));
     }
-    if let Some(index) = outside_suffix(text, rules) {
+    if let Some(index) = outside_suffix(chunk) {
         return Err(Refusal::OutsideText(Concerned::Rule(index)));
     }
-    if let Some(index) = long_step(channels) {
+    if let Some(index) = long_step(chunk) {
         return Err(Refusal::StepTooLarge(index));
     }
-    if let Some(index) = odd_slot(rules) {
+    if let Some(index) = odd_slot(chunk) {
         return Err(Refusal::NoSuchSlot(index));
     }
-    if let Some(index) = astray(rectangle, channels) {
+    if let Some(index) = astray(chunk) {
         return Err(Refusal::OffStep(index));
     }
-    Ok(())
+    Ok(SoundChunk { records: *chunk })
 }
 
 fn is_twice(triplet: &Triplet, index: usize) -> bool
@@ -140,22 +122,12 @@ fn is_twice(triplet: &Triplet, index: usize) -> bool
 fn is_doubled(triplets: &[Triplet], index: usize) -> bool
     ensures { Decides result (Doubled triplets.now index) }
 {
-    for triplet in triplets {
-        if is_twice(triplet, index) {
-            return true;
-        }
-    }
-    false
+    triplets.iter().any(|triplet| is_twice(triplet, index))
 }
 
 // The lowest channel below `count` that one of the triplets holds twice.
 pub(crate) fn held_twice(triplets: &[Triplet], count: usize) -> Option<usize>
     ensures { FirstAt count (Doubled triplets.now) result }
 {
-    for index in 0..count {
-        if is_doubled(triplets, index) {
-            return Some(index);
-        }
-    }
-    None
+    (0..count).find(|index| is_doubled(triplets, *index))
 }

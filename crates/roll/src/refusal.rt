@@ -7,7 +7,6 @@ use std::fmt;
 // The channel or the rule that a refusal is about, by its place in the list.
 #[derive(Clone, Copy)]
 pub enum Concerned {
-    Nothing,
     Channel(usize),
     Rule(usize),
 }
@@ -38,17 +37,17 @@ impl Refusal {
         }
     }
 
-    pub fn concerned(&self) -> Concerned
+    // The chunk as a whole gives `None`.
+    pub fn concerned(&self) -> Option<Concerned>
         ensures { result ≡ concerned self.now }
     {
         match *self {
-            Refusal::TooMany => Concerned::Nothing,
-            Refusal::ChunkTooLarge => Concerned::Nothing,
-            Refusal::OutsideText(whom) => whom,
-            Refusal::StepTooLarge(channel) => Concerned::Channel(channel),
-            Refusal::NoSuchSlot(rule) => Concerned::Rule(rule),
-            Refusal::OffStep(channel) => Concerned::Channel(channel),
-            Refusal::HeldTwice(channel) => Concerned::Channel(channel),
+            Refusal::TooMany | Refusal::ChunkTooLarge => None,
+            Refusal::OutsideText(whom) => Some(whom),
+            Refusal::StepTooLarge(channel) => Some(Concerned::Channel(channel)),
+            Refusal::NoSuchSlot(rule) => Some(Concerned::Rule(rule)),
+            Refusal::OffStep(channel) => Some(Concerned::Channel(channel)),
+            Refusal::HeldTwice(channel) => Some(Concerned::Channel(channel)),
         }
     }
 
@@ -69,7 +68,6 @@ impl Refusal {
 impl fmt::Display for Concerned {
     fn fmt<W: fmt::Write>(&self, f: &mut fmt::Formatter<W>) -> fmt::Result {
         match self {
-            Concerned::Nothing => f.write_str("the chunk"),
             Concerned::Channel(i) => write!(f, "channel {i}"),
             Concerned::Rule(j) => write!(f, "rule {j}"),
         }
@@ -79,8 +77,10 @@ impl fmt::Display for Concerned {
 impl fmt::Display for Refusal {
     fn fmt<W: fmt::Write>(&self, f: &mut fmt::Formatter<W>) -> fmt::Result {
         let number = self.number();
-        let whom = self.concerned();
         let why = self.reason();
-        write!(f, "refusal {number}, {whom}: {why}")
+        match self.concerned() {
+            Some(whom) => write!(f, "refusal {number}, {whom}: {why}"),
+            None => write!(f, "refusal {number}, the chunk: {why}"),
+        }
     }
 }

@@ -1,4 +1,4 @@
-use Rattle.std.proofs.Common.{◌≡◌, ℕ, ◌+◌, List, [], ◌∷◌, ◌++◌, length, get_or, set, Some, None, vec_items, Option, sym, refl, ap, ◌∙◌, subst, arith}
+use Rattle.std.proofs.Common.{◌≡◌, ℕ, ◌+◌, List, [], ◌∷◌, ◌++◌, length, get_or, set, Some, None, vec_items, Option, sym, ap, ◌∙◌, subst}
 use Rattle.std.proofs.lemmas.List.{get_or_read}
 use Rattle.channel_rules.specs.Picks.{FirstAt}
 use Rattle.channel_rules.specs.Triplets.{no_channel}
@@ -16,51 +16,40 @@ said text chs o {ks} {ls} {p} {q} e f h =
     subst (λ x. FirstAt (length ls) (λ k. known_bytes text chs (get_or ls k no_known) ≡ x) o) f
     (subst (λ l. FirstAt (length l) (λ k. known_bytes text chs (get_or l k no_known) ≡ p) o) e h)
 
-pub returns-in-Some : goal.returns-in-Some
-returns-in-Some c =
-    let text = c.args.text.now in
-    let chs = c.args.channels.now in
-    let rules = c.args.rules.now in
+pub returns-in-Some-clause-met : goal.returns-in-Some-clause-met
+returns-in-Some-clause-met c =
+    let text = c.args.chunk.now.records.text.now in
+    let chs = c.args.chunk.now.records.channels.now in
+    let rules = c.args.chunk.now.records.rules.now in
     let ks = vec_items c.args.known.now in
     let at = c.in-Some.place in
     let own = get_or chs c.args.index no_channel in
-    let here = said text chs (Some at) c.as_slice.ensures.value c.prefix.ensures.value c.in-Some.ensures in
-    let first : c.index.result.now ≡ get_or ks at no_known = get_or_read ks at c.index.result.now here.0 c.index.ensures no_known in
-    let slots : c.index-in-Some.result.now ≡ get_or ks at no_known = get_or_read ks at c.index-in-Some.result.now here.0 c.index-in-Some.ensures no_known in
+    let here = said text chs (Some at) c.as_slice.ensures.value c.prefix-prefix.ensures.value c.in-Some.ensures in
+    let old : c.index_mut.result.now ≡ get_or ks at no_known = get_or_read ks at c.index_mut.result.now here.0 c.index_mut.ensures.value no_known in
     let new : KnownPrefix = record { first = (get_or ks at no_known).first; slots = stamped text rules own c.args.index (get_or ks at no_known).slots } in
-    let s : c.apply_rules-scheme.new.slots ≡ new.slots =
-    c.apply_rules-scheme.ensures.slots ∙ ap (λ k. stamped text rules own c.args.index k.slots) slots in
-    let n : record { first = c.index.result.now.first; slots = c.apply_rules-scheme.new.slots } ≡ new =
-    ap (λ (k : KnownPrefix). record { first = k.first; slots = c.apply_rules-scheme.new.slots }) first ∙ ap (λ (x : Slots). record { first = (get_or ks at no_known).first; slots = x }) s in
+    let s : c.apply_rules.new.slots ≡ new.slots =
+    c.apply_rules.ensures.slots ∙ ap (λ k. stamped text rules own c.args.index k.slots) old in
+    let n : record { first = c.index_mut.result.now.first; slots = c.apply_rules.new.slots } ≡ new =
+    ap (λ (k : KnownPrefix). record { first = k.first; slots = c.apply_rules.new.slots }) old ∙ ap (λ (x : Slots). record { first = (get_or ks at no_known).first; slots = x }) s in
     let done : Met text chs rules (c.args.index + 1) (set ks at new) = record {
       firsts = firsts_set (length chs) ks at new c.requires.met.firsts (c.requires.met.firsts at here.0);
       views = met_old text chs rules c.args.index c.requires.within ks c.requires.met.views at here.0 here.1;
     } in
-    record {
-      scheme = c.apply_rules-scheme.ensures.scheme;
-      met = subst (λ k. Met text chs rules (c.args.index + 1) (set ks at k)) (sym n) done;
-      short = omega (arith, c.requires.short);
-      capacity = refl;
-    }
+    subst (λ k. Met text chs rules (c.args.index + 1) (set ks at k)) (sym n) done
 
-pub returns-in-None : goal.returns-in-None
-returns-in-None c =
-    let text = c.args.text.now in
-    let chs = c.args.channels.now in
-    let rules = c.args.rules.now in
+pub returns-in-None-clause-met : goal.returns-in-None-clause-met
+returns-in-None-clause-met c =
+    let text = c.args.chunk.now.records.text.now in
+    let chs = c.args.chunk.now.records.channels.now in
+    let rules = c.args.chunk.now.records.rules.now in
     let ks = vec_items c.args.known.now in
     let own = get_or chs c.args.index no_channel in
-    let nowhere = said text chs None c.as_slice.ensures.value c.prefix.ensures.value c.in-None.ensures in
+    let nowhere = said text chs None c.as_slice.ensures.value c.prefix-prefix.ensures.value c.in-None.ensures in
     let new : KnownPrefix = record { first = c.args.index; slots = stamped text rules own c.args.index no_slots } in
-    let n : record { first = c.args.index; slots = c.apply_rules-scheme-in-None.new.slots } ≡ new =
-    ap (λ (x : Slots). record { first = c.args.index; slots = x }) c.apply_rules-scheme-in-None.ensures.slots in
+    let n : record { first = c.args.index; slots = c.apply_rules-scheme.new.slots } ≡ new =
+    ap (λ (x : Slots). record { first = c.args.index; slots = x }) c.apply_rules-scheme.ensures.slots in
     let done : Met text chs rules (c.args.index + 1) (ks ++ new ∷ []) = record {
       firsts = firsts_push (length chs) ks new c.requires.met.firsts c.requires.within;
       views = met_new text chs rules c.args.index c.requires.within ks c.requires.met.views nowhere;
     } in
-    record {
-      scheme = c.apply_rules-scheme-in-None.ensures.scheme;
-      met = subst (Met text chs rules (c.args.index + 1)) (sym (c.push_reserved.ensures.items ∙ ap (λ k. ks ++ k ∷ []) n)) done;
-      short = omega (arith, c.requires.short, c.push_reserved.ensures.len);
-      capacity = c.push_reserved.ensures.capacity;
-    }
+    subst (Met text chs rules (c.args.index + 1)) (sym (c.push_reserved.ensures.items ∙ ap (λ k. ks ++ k ∷ []) n)) done

@@ -1,17 +1,10 @@
-use Rattle.std.proofs.Common.{sym, ◌∙◌, below_more}
-use Rattle.std.proofs.lemmas.Slice.Eq.{slice_eq-Decides}
-use Rattle.channel_rules.proofs.Picks.{nope}
+use Rattle.std.proofs.Common.{rules}
+use Rattle.std.proofs.lemmas.Iterator.{YieldsList-from_slice}
+use Rattle.std.proofs.lemmas.Iterator.Adapters.{serves_from_places}
+use Rattle.channel_rules.proofs.Growing.{first_at}
 use Rattle.channel_rules.proofs.prefix_map.place_of.Goals as goal
-use Rattle.std.proofs.lemmas.Bool.Decides.{Decides-eqb}
 
-pub returns-then-eq : goal.returns-then-eq
-returns-then-eq c = (
-  c.loop-place-test.true,
-  sym c.prefix.ensures.value ∙ (slice_eq-Decides Decides-eqb c.prefix.result.now c.args.prefix.now c.eq.result c.eq.ensures).0 c.if-eq.true,
-  c.loop-place.invariant,
-)
-
-pub loop-place-preserved : goal.loop-place-preserved
-loop-place-preserved c =
-    below_more _ _ c.loop-place.invariant
-    (λ e. nope c.eq.result ((slice_eq-Decides Decides-eqb c.prefix.result.now c.args.prefix.now c.eq.result c.eq.ensures).1 (c.prefix.ensures.value ∙ e)) c.if-eq.false)
+pub position-requires-clause-callable : goal.position-requires-clause-callable
+position-requires-clause-callable c =
+    serves_from_places (YieldsList-from_slice c.args.known.now (search rules)) (λ x q r. search rules)
+    (λ x k l e. let f = first_at _ _ c.requires.firsts x.now k l e in λ _ _ _ _ _. f)

@@ -1,0 +1,29 @@
+// The slots of a colour triplet.
+ghost use Rattle.channel_rules.specs.Slots.{Decodes};
+
+// A slot, by the colour that is in it once the triplet is turned back.
+#[derive(Clone, Copy, PartialEq, Eq)]
+pub enum Slot {
+    R,
+    G,
+    B,
+}
+
+// A number that no slot has.
+#[derive(Clone, Copy, PartialEq, Eq)]
+pub struct NoSuchSlot(pub usize);
+
+impl TryFrom<usize> for Slot {
+    type Error = NoSuchSlot;
+
+    ghost try_from_gives = { Decodes };
+
+    fn try_from(number: usize) -> Result<Slot, NoSuchSlot> {
+        match number {
+            0 => Ok(Slot::R),
+            1 => Ok(Slot::G),
+            2 => Ok(Slot::B),
+            _ => Err(NoSuchSlot(number)),
+        }
+    }
+}
