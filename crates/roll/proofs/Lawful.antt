@@ -8,6 +8,8 @@ use Rattle.std.specs.Str.{bytes_eq}
 use Rattle.std.proofs.ByRecursion.{All-weaker, kept_by_passes}
 use Rattle.std.proofs.lemmas.Slice.Eq.{bytes_eq-Decides}
 use Rattle.std.proofs.lemmas.Bool.{cases_eq, cases_lt}
+use Rattle.std.proofs.lemmas.Bool.Decides.{Decides-and}
+use Rattle.std.proofs.lemmas.Grind.{div_ceil_times}
 use Rattle.channel_rules.specs.declared.records.ChannelDescription.{ChannelDescription}
 use Rattle.channel_rules.specs.declared.records.Rule.{Rule}
 use Rattle.channel_rules.specs.declared.records.SampleType.{SampleType}
@@ -75,17 +77,13 @@ same_type-law F32 U32 = unlike (λ e. let z : ◌≡◌ {A = ℕ} 0 1 = cc in om
 same_type-law F32 F16 = unlike (λ e. let z : ◌≡◌ {A = ℕ} 0 1 = cc in omega arith)
 same_type-law F32 F32 = alike refl
 
-both_decide : {P Q : Type 0} (x y : Bool) → Decides x P → Decides y Q → Decides (x && y) (P × Q)
-both_decide true y p q = ((λ e. (p.0 refl, q.0 e)), (λ h. q.1 h.1))
-both_decide false y p q = ((λ e. absurd (nope false e refl)), (λ h. p.1 h.0))
-
 same_name-law : (ignore : Bool) (a b : List ℕ) → Decides (same_name ignore a b) (cond ignore (map to_ascii_lowercase a ≡ map to_ascii_lowercase b) (a ≡ b))
 same_name-law true a b = bytes_eq-Decides (map to_ascii_lowercase a) (map to_ascii_lowercase b)
 same_name-law false a b = bytes_eq-Decides a b
 
 matches : (text suffix : List ℕ) (type : SampleType) (r : Rule) → Decides (matched text suffix type r) (Equal text suffix type r)
 matches text suffix type r =
-    both_decide (same_type r.sample_type type) (same_name r.case_insensitive suffix (bytes text r.suffix))
+    Decides-and (same_type r.sample_type type) (same_name r.case_insensitive suffix (bytes text r.suffix))
     (same_type-law r.sample_type type) (same_name-law r.case_insensitive suffix (bytes text r.suffix))
 
 -- a last place under a test is one under what the test decides
@@ -111,11 +109,11 @@ module _ (text : List ℕ) (rules : List Rule) (prefix : List ℕ) (slot : ℕ) 
   test r = is_for text c r && is_slot slot r.csc_index
 
   rule_decides : (r : Rule) → Decides (test r) ((is_for text c r ≡ true) × (r.csc_index ≡ Some slot))
-  rule_decides r = both_decide (is_for text c r) (is_slot slot r.csc_index) ((λ e. e), (λ e. e)) (slot_decides slot r.csc_index)
+  rule_decides r = Decides-and (is_for text c r) (is_slot slot r.csc_index) ((λ e. e), (λ e. e)) (slot_decides slot r.csc_index)
 
   fills : Decides (filled_by text rules prefix slot c) (Fills text rules prefix slot c)
   fills =
-      both_decide (bytes_eq (prefix_in text c) prefix) (writes text rules slot c) (bytes_eq-Decides (prefix_in text c) prefix) (
+      Decides-and (bytes_eq (prefix_in text c) prefix) (writes text rules slot c) (bytes_eq-Decides (prefix_in text c) prefix) (
         (λ e. let r = list_any-index test rules no_rule e in let d = (rule_decides (get_or rules r.0 no_rule)).0 r.2 in (r.0, r.1, d.0, d.1)),
         (λ h. list_any_at test rules h.0 no_rule h.1 ((rule_decides (get_or rules h.0 no_rule)).1 (h.2, h.3))),
       )
@@ -174,40 +172,17 @@ first_appearances names = record {
         (r.0, r.1, (bytes_eq-Decides (get_or ys r.0 []) y).0 r.2)
 
 -- sides
--- n is q times d and r more; s more steps cover the r
-module _ (n d q r s : ℕ) (pos : 0 < d) (whole : d * q + r ≡ n) (rest : r < d) where
-  abbrev Covers : Type 0
-  Covers = (n ≤ (q + s) * d) × ((m : ℕ) → n ≤ m * d → q + s ≤ m)
-
-  even : r ≡ 0 → s ≡ 0 → Covers
-  even e f = (
-    omega (arith, mul_comm d q, add-mul q s d, ap (λ x. x * d) f),
-    λ m h. elim (cases_lt m (q + s)) [
-      | inl l ↦ (let more : suc m * d ≤ q * d = mul-le-mul_right d (omega arith) in omega (arith, mul_comm d q, suc-mul m d))
-      | inr g ↦ g
-    ],
-  )
-
-  odd : 0 < r → s ≡ 1 → Covers
-  odd e f = (
-    omega (arith, mul_comm d q, add-mul q s d, ap (λ x. x * d) f),
-    λ m h. elim (cases_lt m (q + s)) [
-      | inl l ↦ (let more : m * d ≤ q * d = mul-le-mul_right d (omega arith) in omega (arith, mul_comm d q))
-      | inr g ↦ g
-    ],
-  )
-
-cover : (n d : ℕ) → 0 < d → (n ≤ (n / d + min 1 (n % d)) * d) × ((m : ℕ) → n ≤ m * d → n / d + min 1 (n % d) ≤ m)
-cover n d pos =
-    elim (cases_eq (n % d) 0) [
-      | inl e ↦ even n d (n / d) (n % d) (min 1 (n % d)) pos (div-add-mod n d) (mod-lt n pos) e (omega arith)
-      | inr e ↦ odd n d (n / d) (n % d) (min 1 (n % d)) pos (div-add-mod n d) (mod-lt n pos) (omega arith) (omega arith)
-    ]
-
 least_cover : (n step : ℕ) → LeastCover n step (side n step)
 least_cover n step =
-    let c = cover n (effective step) (omega (arith, le-max_right step 1)) in
-    record { covers = c.0; least = c.1 }
+    let d = effective step in
+    let c = div_ceil_times n d (omega (arith, le-max_right step 1)) in
+    record {
+      covers = c.0;
+      least = λ m h. elim (cases_lt m (side n step)) [
+        | inl l ↦ (let more : suc m * d ≤ side n step * d = mul-le-mul_right d (omega arith) in omega (arith, suc-mul m d, c.1))
+        | inr g ↦ g
+      ];
+    }
 
 pub laws : Laws
 laws = record {
