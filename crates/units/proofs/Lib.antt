@@ -1,3 +1,2 @@
-mod EndToEnd
+mod Held
 mod Ordered
-mod Ranked

@@ -24,11 +24,7 @@ fn samples_of(infos: &[ChannelInfo]) -> usize
     requires sides { Sides infos.now }
     ensures value { result ≡ total_samples infos.now }
 {
-    let mut sum = 0;
-    for info in infos {
-        sum += plane_area(info);
-    }
-    sum
+    infos.iter().map(plane_area).sum()
 }
 
 // Where the plane of a lossy channel begins; None where the channel has no plane.
@@ -36,11 +32,8 @@ pub fn plane_start(roll: &Roll, channel: usize) -> Option<usize>
     ensures { PlaneAt roll.now.channels.items channel result }
 {
     let infos = roll.channels();
-    if channel < infos.len() && infos[channel].is_lossy() {
-        Some(samples_of(&infos[0..channel]))
-    } else {
-        None
-    }
+    let has_plane = infos.get(channel)?.is_lossy();
+    has_plane.then(|| samples_of(&infos[..channel]))
 }
 
 // How many samples all planes have together.

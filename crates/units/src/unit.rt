@@ -1,5 +1,5 @@
 // A unit of a roll: channels that are decoded together.
-ghost use Rattle.std.specs.Prelude.{◌≤◌};
+ghost use Rattle.std.specs.Prelude.{◌≡◌, ◌≤◌};
 
 use channel_rules::Triplet;
 
@@ -7,6 +7,20 @@ use channel_rules::Triplet;
 pub enum UnitChannels {
     Triplet(Triplet),
     Lone(usize),
+}
+
+impl UnitChannels {
+    ghost use Rattle.units.specs.Units.{leading};
+
+    // The channel whose size is the unit's.
+    pub(crate) fn leading(&self) -> usize
+        ensures { result ≡ leading self.now }
+    {
+        match self {
+            UnitChannels::Triplet(triplet) => triplet.r,
+            UnitChannels::Lone(channel) => *channel,
+        }
+    }
 }
 
 #[derive(Clone, Copy)]

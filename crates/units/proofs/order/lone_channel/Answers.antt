@@ -1,33 +1,14 @@
-use Rattle.std.proofs.Common.{◌≡◌, ◌<◌, true, false, length, get_or, sym, ap, ◌∙◌, subst, arith}
-use Rattle.units.specs.Units.{is_lone, lones_in}
-use Rattle.units.proofs.Ranked.{kept, count_more, kept_all, ranked}
+use Rattle.std.proofs.Common.{length, sym, ◌∙◌, arith, rules, tests}
+use Rattle.std.proofs.lemmas.Iterator.{YieldsList-from_range}
+use Rattle.std.proofs.lemmas.Iterator.Adapters.{option_map_id}
+use Rattle.std.proofs.lemmas.Iterator.Consumers.{nth_from_yields_List, YieldsList-from_filter}
+use Rattle.units.specs.Units.{is_lone}
 use Rattle.units.proofs.order.lone_channel.Goals as goal
-use Rattle.units.proofs.order.lone_channel.Goals.{then-is_lone+else-before-eq0, else-is_lone}
 
-pub returns-then-before-eq0 : goal.returns-then-before-eq0
-returns-then-before-eq0 c =
-    let test = is_lone c.args.infos.now c.args.triplets.now in
-    let n = length c.args.infos.now in
-    let i = c.loop-channel.channel in
-    let r = ranked test n i c.loop-channel-test.true (sym c.is_lone.ensures ∙ c.if-is_lone.true) in
-    let e : length (kept test n i) ≡ c.args.rank = omega (arith, c.loop-channel.invariant, c.if-before-eq0.true) in
-    let lones = lones_in c.args.infos.now c.args.triplets.now in
-    (subst (λ k. k < length lones) e r.0, r.1 ∙ ap (λ k. get_or lones k 0) e, c.loop-channel-test.true)
-
-pub loop-channel-preserved : goal.loop-channel-preserved
-loop-channel-preserved c =
-    let test = is_lone c.args.infos.now c.args.triplets.now in
-    let n = length c.args.infos.now in
-    let i = c.loop-channel.channel in
-    elim c.if-is_lone.branch [
-      | then-is_lone+else-before-eq0 w ↦
-          (let more = count_more test n i true c.loop-channel-test.true (sym c.is_lone.ensures ∙ w.if-is_lone.true) in
-          omega (arith, w.before-is, w.if-before-eq0.false, c.loop-channel.invariant))
-      | else-is_lone w ↦
-          (let more = count_more test n i false c.loop-channel-test.true (sym c.is_lone.ensures ∙ w.if-is_lone.false) in
-          omega (arith, w.before-is, c.loop-channel.invariant))
-    ]
-
-pub returns : goal.returns
-returns c =
-    omega (arith, c.loop-channel.invariant, ap length (kept_all (is_lone c.args.infos.now c.args.triplets.now) (length c.args.infos.now) c.loop-channel.channel (omega arith)))
+pub returns-clause-value : goal.returns-clause-value
+returns-clause-value c =
+    let es = c.args.roll.now.channels.items in
+    let numbers = YieldsList-from_range 0 (length es) (length es) (cc) (omega arith) in
+    sym (option_map_id c.nth.result)
+    ∙ nth_from_yields_List c.nth.result _ c.args.rank c.nth.ensures.ran
+    (YieldsList-from_filter _ (is_lone es c.args.roll.now.triplets.items) numbers c.filter.ensures.closure (λ x r q k. search (rules, tests)))

@@ -1,15 +1,11 @@
-use Rattle.std.proofs.Common.{arith}
-use Rattle.std.proofs.lemmas.List.{take_all}
-use Rattle.std.proofs.lemmas.List.Sums.{sum_by_more}
+use Rattle.std.proofs.Common.{rules}
+use Rattle.std.proofs.lemmas.Iterator.{YieldsList-from_slice}
+use Rattle.std.proofs.lemmas.Iterator.Adapters.{serves_from_places}
+use Rattle.std.proofs.lemmas.List.{get_or_read}
 use Rattle.channel_rules.specs.Triplets.{no_info}
-use Rattle.units.specs.Units.{plane_area}
 use Rattle.units.proofs.planes.samples_of.Goals as goal
 
-pub loop-info-preserved : goal.loop-info-preserved
-loop-info-preserved c = (
-  omega (arith, c.loop-info.invariant.0, c.plane_area-sum.ensures.value, sum_by_more plane_area c.args.infos.now c.loop-info.info-index no_info c.loop-info-test.true),
-  omega (arith, c.loop-info.invariant.1, c.plane_area-sum.ensures.bound),
-)
-
-pub returns : goal.returns
-returns c = record { value = simp (take_all c.loop-info.info-index c.args.infos.now (omega arith)) at c.loop-info.invariant.0 }
+-- each item is an element of the list, whose sides are bounded
+pub sum-requires-clause-can : goal.sum-requires-clause-can
+sum-requires-clause-can c =
+    (tt, serves_from_places (YieldsList-from_slice c.args.infos.now cc) (λ x q k. search rules) (λ x k l e. let s = c.requires.sides k l in let h = rw (← get_or_read c.args.infos.now k x.now l e no_info) at s in search rules))
