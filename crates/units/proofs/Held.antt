@@ -1,4 +1,4 @@
--- The test of triplets that `some` names is std's.
+-- Whether one of a list passes, as std says it.
 use Rattle.std.proofs.Common.{◌≡◌, Bool, ◌||◌, List, [], ◌∷◌, refl, ap}
 use Rattle.std.specs.List.{list_any}
 use Rattle.channel_rules.specs.Picks.{some}

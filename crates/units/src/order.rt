@@ -26,7 +26,7 @@ fn lone_count(roll: &Roll) -> usize
     ensures few { result ≤ length roll.now.channels.items }
 {
     (0..roll.channels().len())
-        .filter(|channel| is_lone(roll, *channel))
+        .filter(|&channel| is_lone(roll, channel))
         .count()
 }
 
@@ -36,7 +36,7 @@ fn lone_channel(roll: &Roll, rank: usize) -> Option<usize>
     ensures within { IfSome result (λ i. i < length roll.now.channels.items) }
 {
     (0..roll.channels().len())
-        .filter(|channel| is_lone(roll, *channel))
+        .filter(|&channel| is_lone(roll, channel))
         .nth(rank)
 }
 
