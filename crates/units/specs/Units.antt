@@ -1,14 +1,12 @@
 -- The units of a roll, and where the planes of its lossy channels lie.
 use Rattle.std.specs.Prelude.{◌≡◌, ℕ, ◌+◌, ◌*◌, ◌<◌, ◌≤◌, Bool, true, cond, not, ◌&&◌, ◌||◌, List, ◌++◌, map, length, slice_index_or, take, Some, None, sum_by, filter, Option, ◌==◌}
-use Rattle.std.specs.List.{range_with_len}
+use Rattle.std.specs.List.{list_any, range_with_len}
 use Rattle.channel_rules.specs.declared.records.ChannelInfo.{ChannelInfo}
 use Rattle.channel_rules.specs.declared.records.Triplet.{Triplet}
 use Rattle.units.specs.declared.unit.Unit.{Unit}
 use Rattle.units.specs.declared.unit.UnitChannels.{UnitChannels}
 use Rattle.units.specs.declared.unit.UnitChannels.TheVariants.{Triplet as OfTriplet, Lone}
-use Rattle.channel_rules.specs.Picks.{some}
-use Rattle.channel_rules.specs.Triplets.{is_lossy}
-use Rattle.channel_rules.specs.Triplets.{no_info}
+use Rattle.channel_rules.specs.Triplets.{is_lossy, no_info}
 
 -- one of the triplet's slots holds the channel
 abbrev pub holds : ℕ → Triplet → Bool
@@ -16,7 +14,7 @@ holds i t = t.r == i || t.g == i || t.b == i
 
 -- a lossy channel that no triplet holds
 abbrev pub is_lone : List ChannelInfo → List Triplet → ℕ → Bool
-is_lone es ts i = is_lossy (slice_index_or es i no_info).scheme && not (some (holds i) ts)
+is_lone es ts i = is_lossy (slice_index_or es i no_info).scheme && not (list_any (holds i) ts)
 
 -- those channels, in channel order
 abbrev pub lones_in : List ChannelInfo → List Triplet → List ℕ

@@ -1,7 +1,7 @@
 // The units of a roll, in the order in which they are decoded.
 ghost use Rattle.std.specs.Prelude.{◌≡◌, ◌<◌, ◌≤◌, length, IfSome, slice_get, slice_index_or};
+ghost use Rattle.std.specs.List.{list_any};
 ghost use Rattle.channel_rules.specs.Triplets.{no_info};
-ghost use Rattle.channel_rules.specs.Picks.{some};
 ghost use Rattle.units.specs.Units.{holds, is_lone, leading, lones_in, units_in, UnitAt};
 
 use crate::unit::{Unit, UnitChannels};
@@ -9,7 +9,7 @@ use channel_rules::Triplet;
 use roll::Roll;
 
 fn is_held(triplets: &[Triplet], channel: usize) -> bool
-    ensures { result ≡ some (holds channel) triplets.now }
+    ensures { result ≡ list_any (holds channel) triplets.now }
 {
     triplets.iter().any(|triplet| [triplet.r, triplet.g, triplet.b].contains(&channel))
 }
