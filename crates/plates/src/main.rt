@@ -19,11 +19,13 @@ fn run(rt: &HostRuntime) -> anyhow::Result<()> {
         rt.print(USAGE)?;
         return Ok(());
     };
-    if command.as_str() == "roll" {
-        return roll_command(rt, args);
+    match command.as_str() {
+        "roll" => roll_command(rt, args),
+        _ => {
+            rt.eprint(USAGE)?;
+            Err(anyhow!("there is no such command"))
+        }
     }
-    rt.eprint(USAGE)?;
-    Err(anyhow!("there is no such command"))
 }
 
 fn main(rt: HostRuntime) -> anyhow::Result<()> {

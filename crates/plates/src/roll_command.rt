@@ -1,25 +1,65 @@
 // `plates roll`: the roll of each plate.
 use anyhow::anyhow;
-use channel_rules::{ChannelDescription, ChannelInfo};
-use plate_file::{Plate, Quoted, parse_plate};
-use roll::{Roll, classify_channels};
+use channel_rules::ChannelDescription;
+use plate_file::{Malformed, Plate, Quoted, parse_plate};
+use roll::{Refusal, Roll, classify_channels};
 use std::env::Args;
-use std::{fs, io};
+use std::{fmt, fs, io};
 use units::{Unit, UnitChannels, unit_at, unit_count};
+
+// Why a plate gave no roll.
+#[derive(Drop)]
+enum NoRoll {
+    Unreadable(io::Error),
+    Malformed(Malformed),
+    Refused(Refusal),
+}
+
+impl fmt::Display for NoRoll {
+    fn fmt<W: fmt::Write>(&self, f: &mut fmt::Formatter<W>) -> fmt::Result {
+        match self {
+            NoRoll::Unreadable(e) => write!(f, "unreadable: {e}"),
+            NoRoll::Malformed(fault) => write!(f, "malformed {fault}"),
+            NoRoll::Refused(refusal) => write!(f, "{refusal}"),
+        }
+    }
+}
+
+impl From<io::Error> for NoRoll {
+    fn from(e: io::Error) -> NoRoll {
+        NoRoll::Unreadable(e)
+    }
+}
+
+impl From<Malformed> for NoRoll {
+    fn from(fault: Malformed) -> NoRoll {
+        NoRoll::Malformed(fault)
+    }
+}
+
+impl From<Refusal> for NoRoll {
+    fn from(refusal: Refusal) -> NoRoll {
+        NoRoll::Refused(refusal)
+    }
+}
 
 // Prints the roll of each file. A file that cannot be read or is refused does not stop the others.
 pub fn roll_command(rt: &HostRuntime, files: Args) -> anyhow::Result<()> {
     let mut roll = Roll::new(rt.alloc())?;
-    let mut tried = 0u64;
-    let mut failed = 0u64;
-    for file in files {
-        tried = tried.saturating_add(1);
-        if !print_file(rt, &mut roll, file.as_str())? {
-            failed = failed.saturating_add(1);
-        }
-    }
+    let tried = files.len();
     if tried == 0 {
         return Err(anyhow!("name the plate files to read"));
+    }
+    let mut failed = 0u64;
+    for file in files {
+        println!(rt; "plate {file}")?;
+        match read_plate(rt, &mut roll, file.as_str()) {
+            Ok(plate) => print_roll(rt, &plate, &roll)?,
+            Err(why) => {
+                println!(rt; "{why}")?;
+                failed = failed.saturating_add(1);
+            }
+        }
     }
     if failed > 0 {
         return Err(anyhow!(format!(in rt.alloc(); "{failed} of {tried} plates gave no roll")?));
@@ -27,80 +67,49 @@ pub fn roll_command(rt: &HostRuntime, files: Args) -> anyhow::Result<()> {
     Ok(())
 }
 
-// False where the plate gave no roll.
-fn print_file(rt: &HostRuntime, roll: &mut Roll, file: &str) -> io::Result<bool> {
-    println!(rt; "plate {file}")?;
-    let bytes = match fs::read(rt, file) {
-        Ok(bytes) => bytes,
-        Err(e) => {
-            println!(rt; "unreadable: {e}")?;
-            return Ok(false);
-        }
-    };
-    match parse_plate(rt.alloc(), bytes.as_slice()) {
-        Ok(plate) => print_plate(rt, roll, &plate),
-        Err(fault) => {
-            println!(rt; "malformed {fault}")?;
-            Ok(false)
-        }
-    }
-}
-
-fn print_plate(rt: &HostRuntime, roll: &mut Roll, plate: &Plate) -> io::Result<bool> {
-    let text = plate.text.as_slice();
-    let channels = plate.channels.as_slice();
-    if let Err(refusal) = classify_channels(
+// The plate of a file, with the roll filled from it.
+fn read_plate(rt: &HostRuntime, roll: &mut Roll, file: &str) -> Result<Plate, NoRoll> {
+    let bytes = fs::read(rt, file)?;
+    let plate = parse_plate(rt.alloc(), bytes.as_slice())?;
+    classify_channels(
         roll,
-        text,
-        channels,
+        plate.text.as_slice(),
+        plate.channels.as_slice(),
         plate.rules.as_slice(),
         &plate.rectangle,
-    ) {
-        println!(rt; "{refusal}")?;
-        return Ok(false);
-    }
-    print_channels(rt, text, channels, roll.channels())?;
-    for (k, t) in roll.triplets().iter().enumerate() {
-        let r = t.r;
-        let g = t.g;
-        let b = t.b;
-        println!(rt; "triplet {k} channels {r} {g} {b}")?;
-    }
-    print_units(rt, roll)?;
-    Ok(true)
+    )?;
+    Ok(plate)
 }
 
-fn print_channels(
-    rt: &HostRuntime,
-    text: &[u8],
-    channels: &[ChannelDescription],
-    infos: &[ChannelInfo],
-) -> io::Result<()> {
-    for (i, (channel, info)) in channels.iter().zip(infos.iter()).enumerate() {
-        let name = Quoted(name_of(text, channel));
-        let sample_type = info.sample_type;
-        let scheme = info.scheme;
-        let width = info.width;
-        let height = info.height;
-        println!(rt; "channel {i} {name} {sample_type} {scheme} {width}x{height}")?;
+fn print_roll(rt: &HostRuntime, plate: &Plate, roll: &Roll) -> io::Result<()> {
+    print_channels(rt, plate, roll)?;
+    for (k, t) in roll.triplets().iter().enumerate() {
+        println!(rt; "triplet {k} channels {} {} {}", t.r, t.g, t.b)?;
+    }
+    for (k, unit) in (0..unit_count(roll))
+        .filter_map(|k| unit_at(roll, k))
+        .enumerate()
+    {
+        print_unit(rt, k, &unit)?;
+    }
+    Ok(())
+}
+
+fn print_channels(rt: &HostRuntime, plate: &Plate, roll: &Roll) -> io::Result<()> {
+    for (i, (channel, info)) in plate.channels.iter().zip(roll.channels()).enumerate() {
+        let name = Quoted(name_of(plate.text.as_slice(), channel));
+        println!(rt;
+            "channel {i} {name} {} {} {}x{}",
+            info.sample_type, info.scheme, info.width, info.height
+        )?;
     }
     Ok(())
 }
 
 fn name_of<'a>(text: &'a [u8], channel: &ChannelDescription) -> &'a [u8] {
-    match text.get(channel.name.start..text.len()) {
-        Some(rest) if channel.name.len <= rest.len() => &rest[0..channel.name.len],
-        _ => &[],
-    }
-}
-
-fn print_units(rt: &HostRuntime, roll: &Roll) -> io::Result<()> {
-    for k in 0..unit_count(roll) {
-        if let Some(unit) = unit_at(roll, k) {
-            print_unit(rt, k, &unit)?;
-        }
-    }
-    Ok(())
+    text.get(channel.name.start..)
+        .and_then(|rest| rest.get(..channel.name.len))
+        .unwrap_or(&[])
 }
 
 fn print_unit(rt: &HostRuntime, k: usize, unit: &Unit) -> io::Result<()> {
@@ -109,12 +118,10 @@ fn print_unit(rt: &HostRuntime, k: usize, unit: &Unit) -> io::Result<()> {
     let wide = unit.blocks_wide();
     let high = unit.blocks_high();
     match unit.channels {
-        UnitChannels::Triplet(t) => {
-            let r = t.r;
-            let g = t.g;
-            let b = t.b;
-            println!(rt; "unit {k} triplet {r} {g} {b} size {width}x{height} blocks {wide}x{high}")
-        }
+        UnitChannels::Triplet(t) => println!(rt;
+            "unit {k} triplet {} {} {} size {width}x{height} blocks {wide}x{high}",
+            t.r, t.g, t.b
+        ),
         UnitChannels::Lone(i) => println!(rt;
             "unit {k} lone {i} size {width}x{height} blocks {wide}x{high}"
         ),

@@ -1,92 +1,61 @@
 // What is answered for a plate, in the words of an `.expected` file.
-use plate_file::{Malformed, parse_plate};
+use plate_file::Plate;
 use roll::{Concerned, Refusal, Roll, classify_channels};
 use std::alloc::{AllocError, Global};
 
+// The first lines of an `.expected` file.
 #[derive(Drop)]
 pub enum Answer {
-    Malformed(Malformed),
-    Classified(Lines, Streams),
+    // What follows them there says how decoding ended.
+    Roll(String),
+    // They are all of the file.
+    Refused(String),
 }
 
-// A number for each stream that tells its words and their order.
-#[derive(Clone, Copy)]
-pub struct Streams {
-    pub dc: u32,
-    pub ac: u32,
-}
-
-// Each word, one more than it is so that zeros count, times its place from 1, all added up.
-fn weight(words: &[u16]) -> u32 {
-    let mut sum = 0u32;
-    let mut place = 1u32;
-    for word in words {
-        let more = u32::from(*word).wrapping_add(1).wrapping_mul(place);
-        sum = sum.wrapping_add(more);
-        place = place.wrapping_add(1);
-    }
-    sum
-}
-
-// The first lines of an `.expected` file; those of a refusal are all of it.
-#[derive(Drop)]
-pub struct Lines {
-    text: String,
-    whole: bool,
-}
-
-impl Lines {
-    // What follows the lines of a roll says how decoding ended.
+impl Answer {
     pub fn is_in(&self, expected: &[u8]) -> bool {
-        match expected.strip_prefix(self.text.as_bytes()) {
-            Some(rest) if self.whole => rest.is_empty(),
-            Some(rest) => rest.starts_with(b"ok\n") || rest.starts_with(b"short "),
-            None => false,
+        match self {
+            Answer::Roll(lines) => expected.strip_prefix(lines.as_bytes()).is_some_and(
+                |rest| rest.starts_with(b"ok\n") || rest.starts_with(b"short "),
+            ),
+            Answer::Refused(line) => expected == line.as_bytes(),
         }
     }
 }
 
-pub fn answer_of(heap: Global, roll: &mut Roll, bytes: &[u8]) -> Result<Answer, AllocError> {
-    let plate = match parse_plate(heap, bytes) {
-        Ok(plate) => plate,
-        Err(fault) => return Ok(Answer::Malformed(fault)),
-    };
-    let text = plate.text.as_slice();
-    let channels = plate.channels.as_slice();
-    let rules = plate.rules.as_slice();
-    let lines = match classify_channels(roll, text, channels, rules, &plate.rectangle) {
-        Ok(()) => roll_lines(heap, roll)?,
-        Err(refusal) => refusal_line(heap, &refusal)?,
-    };
-    let dc = weight(plate.dc.as_slice());
-    let ac = weight(plate.ac.as_slice());
-    Ok(Answer::Classified(lines, Streams { dc, ac }))
+pub fn answer_of(heap: Global, roll: &mut Roll, plate: &Plate) -> Result<Answer, AllocError> {
+    let classified = classify_channels(
+        roll,
+        plate.text.as_slice(),
+        plate.channels.as_slice(),
+        plate.rules.as_slice(),
+        &plate.rectangle,
+    );
+    match classified {
+        Ok(()) => Ok(Answer::Roll(roll_lines(heap, roll)?)),
+        Err(refusal) => Ok(Answer::Refused(refusal_line(heap, &refusal)?)),
+    }
 }
 
-fn roll_lines(heap: Global, roll: &Roll) -> Result<Lines, AllocError> {
-    let mut text = String::new(heap);
+fn roll_lines(heap: Global, roll: &Roll) -> Result<String, AllocError> {
+    let mut lines = String::new(heap);
     for (i, info) in roll.channels().iter().enumerate() {
-        let scheme = info.scheme;
-        let width = info.width;
-        let height = info.height;
-        text.push_str(format!(in heap; "channel {i} {scheme} {width}x{height}\n")?.as_str())?;
+        writeln!(
+            lines,
+            "channel {i} {} {}x{}",
+            info.scheme, info.width, info.height
+        )?;
     }
-    for triplet in roll.triplets() {
-        let r = triplet.r;
-        let g = triplet.g;
-        let b = triplet.b;
-        text.push_str(format!(in heap; "triplet {r} {g} {b}\n")?.as_str())?;
+    for t in roll.triplets() {
+        writeln!(lines, "triplet {} {} {}", t.r, t.g, t.b)?;
     }
-    let whole = false;
-    Ok(Lines { text, whole })
+    Ok(lines)
 }
 
-fn refusal_line(heap: Global, refusal: &Refusal) -> Result<Lines, AllocError> {
+fn refusal_line(heap: Global, refusal: &Refusal) -> Result<String, AllocError> {
     let number = refusal.number();
-    let whole = true;
-    let text = match refusal.concerned() {
-        Concerned::Nothing => format!(in heap; "refused {number}\n")?,
-        whom => format!(in heap; "refused {number} {whom}\n")?,
-    };
-    Ok(Lines { text, whole })
+    match refusal.concerned() {
+        Concerned::Nothing => format!(in heap; "refused {number}\n"),
+        whom => format!(in heap; "refused {number} {whom}\n"),
+    }
 }
