@@ -50,7 +50,7 @@ pub fn roll_command(rt: &HostRuntime, files: Args) -> anyhow::Result<()> {
     if tried == 0 {
         return Err(anyhow!("name the plate files to read"));
     }
-    let mut failed = 0u64;
+    let mut failed = 0usize;
     for file in files {
         println!(rt; "plate {file}")?;
         match read_plate(rt, &mut roll, file.as_str()) {

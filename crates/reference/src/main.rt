@@ -43,7 +43,7 @@ fn run(rt: &HostRuntime) -> anyhow::Result<()> {
     let mut args = env::args(rt)?;
     let _program = args.next();
     let plates = args.len();
-    let mut fine = 0u64;
+    let mut fine = 0usize;
     for name in args {
         if print_plate(rt, &mut roll, name.as_str())? {
             fine = fine.saturating_add(1);

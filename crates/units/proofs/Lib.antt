@@ -1,1 +1,2 @@
+mod EndToEnd
 mod Ordered
