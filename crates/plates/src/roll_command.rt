@@ -50,6 +50,7 @@ pub fn roll_command(rt: &HostRuntime, files: Args) -> anyhow::Result<()> {
     if tried == 0 {
         return Err(anyhow!("name the plate files to read"));
     }
+    // Counted in the loop, which a failed write ends: no chain would be plainer.
     let mut failed = 0usize;
     for file in files {
         println!(rt; "plate {file}")?;

@@ -43,6 +43,7 @@ fn run(rt: &HostRuntime) -> anyhow::Result<()> {
     let mut args = env::args(rt)?;
     let _program = args.next();
     let plates = args.len();
+    // Counted in the loop, which a failed read or write ends: no chain would be plainer.
     let mut fine = 0usize;
     for name in args {
         if print_plate(rt, &mut roll, name.as_str())? {
