@@ -21,6 +21,7 @@ fn is_lone(roll: &Roll, channel: usize) -> bool
     roll.channels()[channel].is_lossy() && !is_held(roll.triplets(), channel)
 }
 
+// The next function runs the same chain: to share it, the iterator would need a type of its own.
 fn lone_count(roll: &Roll) -> usize
     ensures value { result ≡ length (lones_in roll.now.channels.items roll.now.triplets.items) }
     ensures few { result ≤ length roll.now.channels.items }
