@@ -46,6 +46,14 @@ no_name text bs e = at (letters_in bs) e
     at None e = refl
     at (Some name) e = absurd (let z : ◌≡◌ {A = ℕ} 0 1 = cc in omega arith)
 
+-- a text has only grown by letters
+pub grown-ge : (text bs new : List ℕ) → grown text bs ≡ Some new → length text ≤ length new
+grown-ge text bs new e = at (letters_in bs) e
+  where
+    at : (o : Option (List ℕ)) → option_map (λ name. text ++ name) o ≡ Some new → length text ≤ length new
+    at None e = absurd (let z : ◌≡◌ {A = ℕ} 0 1 = cc in omega arith)
+    at (Some name) e = let joined : text ++ name ≡ new = cc in omega (arith, length-append text name, ap length joined)
+
 -- what was read between the quotes has been put behind the text
 pub name_added : (bs old new written : List ℕ) (start len : ℕ) → written_in bs ≡ Ok written → grown old written ≡ Some new → start ≡ length old → len ≡ length new - length old → NameAdded bs old new (record { start = start; len = len })
 name_added bs old new written start len is grew starts long = at (letters_in written) refl grew
@@ -61,7 +69,3 @@ name_added bs old new written start len is grew starts long = at (letters_in wri
           text = sym joined;
           place = λ i. record { start = starts i; len = more i };
         }
-
-pub name_inside : (bs old new : List ℕ) (part : Part) → NameAdded bs old new part → part.start + part.len ≤ length new
-name_inside bs old new part added =
-    omega (arith, ap (λ p. p.start + p.len) added.place, ap length added.text, length-append old added.name)

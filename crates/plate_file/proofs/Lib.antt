@@ -2,7 +2,7 @@ mod HexPairs
 mod Numerals
 mod Letters
 mod Quotes
-mod Pushed
+mod Added
 mod Sequence
 mod Cutting
 mod StreamWords

@@ -31,7 +31,7 @@ pub record Contents : Type 0 where
 -- the contents of a plate
 abbrev pub contents : Plate → Contents
 contents p =
-    record { text = vec_items p.text; channels = vec_items p.channels; rules = vec_items p.rules; rectangle = p.rectangle; dc = vec_items p.dc; ac = vec_items p.ac }
+    record { text = vec_items p.records.text; channels = vec_items p.records.channels; rules = vec_items p.records.rules; rectangle = p.rectangle; dc = vec_items p.dc; ac = vec_items p.ac }
 
 -- the same with other words in the dc stream
 abbrev pub with_dc : Contents → List ℕ → Contents

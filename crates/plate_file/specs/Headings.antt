@@ -20,7 +20,8 @@ pub record Heading : Type 0 where
 
 -- what a header says
 abbrev pub heading : Header → Heading
-heading h = record { text = vec_items h.text; channels = vec_items h.channels; rules = vec_items h.rules; rectangle = h.rectangle }
+heading h =
+    record { text = vec_items h.records.text; channels = vec_items h.records.channels; rules = vec_items h.records.rules; rectangle = h.rectangle }
 
 -- before the first line
 abbrev pub no_heading : Heading
@@ -59,6 +60,6 @@ with_rule h bs =
     Ok (record { text = h.text ++ suffix; channels = h.channels; rules = h.rules ++ rule ∷ []; rectangle = h.rectangle })))
 
 -- a header says what is right, or the fault is the right one
-abbrev pub Says : Result Heading Problem → Header → Result (Unit {0}) Problem → Type 0
-Says right header (Ok done) = right ≡ Ok (heading header)
-Says right header (Err problem) = Fault right problem
+abbrev pub Says : Result Heading Problem → Result Header Problem → Type 0
+Says right (Ok header) = right ≡ Ok (heading header)
+Says right (Err problem) = Fault right problem

@@ -3,7 +3,6 @@ pub mod Fields
 pub mod Hex
 pub mod Decimal
 pub mod Words
-pub mod Inside
 pub mod Steps
 pub mod Quoted
 pub mod Lines

@@ -1,10 +1,9 @@
 // What stands before the streams.
-ghost use Rattle.std.specs.Prelude.{◌≡◌, ◌≤◌};
-ghost use Rattle.plate_file.specs.Reading.{unread, ahead};
+ghost use Rattle.std.specs.Prelude.{◌≡◌};
+ghost use Rattle.plate_file.specs.Reading.{unread};
 ghost use Rattle.plate_file.specs.Headings.{heading, no_heading, with_rectangle, with_channel, with_rule, Says};
 
-use crate::lines::{channel, rectangle, rule};
-use crate::plate::Header;
+use crate::plate::{Header, Records};
 use crate::problem::Problem;
 use crate::reader::Reader;
 use std::alloc::Global;
@@ -13,40 +12,72 @@ impl Header {
     pub(crate) fn new(heap: Global) -> Header
         ensures { heading result ≡ no_heading }
     {
-        Header {
+        let records = Records {
             text: Vec::new(heap),
             channels: Vec::new(heap),
             rules: Vec::new(heap),
+        };
+        Header {
+            records,
             rectangle: None,
         }
     }
 
-    pub(crate) fn add_rectangle(&mut self, reader: &mut Reader<'_>) -> Result<(), Problem>
-        ensures len { ahead reader.new ≤ ahead reader.old }
-        ensures says { Says (with_rectangle (heading self.old) (unread reader.old)) self.new result }
+    // Behind the word `rectangle`.
+    pub(crate) fn with_rectangle(self, reader: Reader<'_>) -> Result<Header, Problem>
+        ensures { Says (with_rectangle (heading self) (unread reader.entry)) result }
     {
         if self.rectangle.is_some() {
             return Err(Problem::SecondRectangle);
         }
-        self.rectangle = Some(rectangle(reader)?);
-        Ok(())
+        let rectangle = reader.rectangle()?;
+        Ok(Header {
+            rectangle: Some(rectangle),
+            ..self
+        })
     }
 
-    pub(crate) fn add_channel(&mut self, reader: &mut Reader<'_>) -> Result<(), Problem>
-        ensures len { ahead reader.new ≤ ahead reader.old }
-        ensures says { Says (with_channel (heading self.old) (unread reader.old)) self.new result }
+    // Behind the word `channel`.
+    pub(crate) fn with_channel(self, reader: Reader<'_>) -> Result<Header, Problem>
+        ensures { Says (with_channel (heading self) (unread reader.entry)) result }
     {
-        let channel = channel(reader, &mut self.text)?;
-        self.channels.push(channel)?;
-        Ok(())
+        let Records {
+            mut text,
+            mut channels,
+            rules,
+        } = self.records;
+        let channel = reader.channel(&mut text)?;
+        channels.push(channel)?;
+        let records = Records {
+            text,
+            channels,
+            rules,
+        };
+        Ok(Header {
+            records,
+            rectangle: self.rectangle,
+        })
     }
 
-    pub(crate) fn add_rule(&mut self, reader: &mut Reader<'_>) -> Result<(), Problem>
-        ensures len { ahead reader.new ≤ ahead reader.old }
-        ensures says { Says (with_rule (heading self.old) (unread reader.old)) self.new result }
+    // Behind the word `rule`.
+    pub(crate) fn with_rule(self, reader: Reader<'_>) -> Result<Header, Problem>
+        ensures { Says (with_rule (heading self) (unread reader.entry)) result }
     {
-        let rule = rule(reader, &mut self.text)?;
-        self.rules.push(rule)?;
-        Ok(())
+        let Records {
+            mut text,
+            channels,
+            mut rules,
+        } = self.records;
+        let rule = reader.rule(&mut text)?;
+        rules.push(rule)?;
+        let records = Records {
+            text,
+            channels,
+            rules,
+        };
+        Ok(Header {
+            records,
+            rectangle: self.rectangle,
+        })
     }
 }

@@ -17,6 +17,6 @@ mod stages;
 mod streams;
 
 pub use parse::parse_plate;
-pub use plate::Plate;
+pub use plate::{Plate, Records};
 pub use problem::{Malformed, Problem};
 pub use shown::Quoted;

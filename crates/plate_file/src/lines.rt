@@ -1,169 +1,151 @@
 // The fields of a rectangle, a channel and a rule.
-ghost use Rattle.std.specs.Prelude.{◌≡◌, ◌≤◌, IfOk, MatchResult, Some, Ok, vec_len};
+ghost use Rattle.std.specs.Prelude.{◌≡◌, IfOk, MatchResult, Some, Ok};
 ghost use Rattle.plate_file.specs.Decimal.{Unsigned, Signed};
-ghost use Rattle.plate_file.specs.Inside.{Inside};
 ghost use Rattle.plate_file.specs.Headings.{BehindName, named_in};
 ghost use Rattle.plate_file.specs.Steps.{Fault};
 ghost use Rattle.plate_file.specs.Lines.{RectangleIn, ChannelIn, RuleIn, SlotIn, FlagIn, number_next, signed_next, type_next, scheme_next, slot_next, flag_next, rectangle_in, channel_in, rule_in};
 ghost use Rattle.plate_file.specs.Words.{TypeWord, SchemeWord};
-ghost use Rattle.plate_file.specs.Reading.{field_in, after_field, unread, ahead};
+ghost use Rattle.plate_file.specs.Reading.{field_in, after_field, unread};
 
 use crate::keywords::{is, sample_type_of, scheme_of};
-use crate::names::quoted;
 use crate::numbers::{signed, unsigned};
 use crate::problem::Problem;
 use crate::reader::Reader;
 use channel_rules::{ChannelDescription, CompressorScheme, IntegerBounds, Part, Rule, SampleType};
 
-pub(crate) fn number(reader: &mut Reader<'_>) -> Result<usize, Problem>
-    ensures value { IfOk result (λ n. Unsigned (field_in (unread reader.old)) (Ok n)) }
-    ensures after { unread reader.new ≡ after_field (unread reader.old) }
-    ensures len { ahead reader.new ≤ ahead reader.old }
-    ensures exact { result ≡ number_next (unread reader.old) }
-{
-    let field = reader.required_field()?;
-    Ok(unsigned(field)?)
-}
-
-fn signed_number(reader: &mut Reader<'_>) -> Result<i32, Problem>
-    ensures value { IfOk result (λ n. Signed (field_in (unread reader.old)) (Ok n)) }
-    ensures after { unread reader.new ≡ after_field (unread reader.old) }
-    ensures len { ahead reader.new ≤ ahead reader.old }
-    ensures exact { result ≡ signed_next (unread reader.old) }
-{
-    let field = reader.required_field()?;
-    Ok(signed(field)?)
-}
-
-fn slot(reader: &mut Reader<'_>) -> Result<Option<usize>, Problem>
-    ensures value { IfOk result (SlotIn (field_in (unread reader.old))) }
-    ensures after { unread reader.new ≡ after_field (unread reader.old) }
-    ensures len { ahead reader.new ≤ ahead reader.old }
-    ensures exact { result ≡ slot_next (unread reader.old) }
-{
-    let field = reader.required_field()?;
-    if is(field, b"-") {
-        return Ok(None);
+impl Reader<'_> {
+    pub(crate) fn number(&mut self) -> Result<usize, Problem>
+        ensures value { IfOk result (λ n. Unsigned (field_in (unread self.old)) (Ok n)) }
+        ensures after { unread self.new ≡ after_field (unread self.old) }
+        ensures exact { result ≡ number_next (unread self.old) }
+    {
+        let field = self.required_field()?;
+        Ok(unsigned(field)?)
     }
-    Ok(Some(unsigned(field)?))
-}
 
-fn sample_type(reader: &mut Reader<'_>) -> Result<SampleType, Problem>
-    ensures value { IfOk result (λ found. TypeWord (field_in (unread reader.old)) (Some found)) }
-    ensures after { unread reader.new ≡ after_field (unread reader.old) }
-    ensures len { ahead reader.new ≤ ahead reader.old }
-    ensures exact { result ≡ type_next (unread reader.old) }
-{
-    let field = reader.required_field()?;
-    sample_type_of(field).ok_or(Problem::UnknownSampleType)
-}
-
-fn scheme(reader: &mut Reader<'_>) -> Result<CompressorScheme, Problem>
-    ensures value { IfOk result (λ found. SchemeWord (field_in (unread reader.old)) (Some found)) }
-    ensures after { unread reader.new ≡ after_field (unread reader.old) }
-    ensures len { ahead reader.new ≤ ahead reader.old }
-    ensures exact { result ≡ scheme_next (unread reader.old) }
-{
-    let field = reader.required_field()?;
-    scheme_of(field).ok_or(Problem::UnknownScheme)
-}
-
-// Whether the line ends with `word`; nothing else may stand there.
-fn ends_with(reader: &mut Reader<'_>, word: &[u8]) -> Result<bool, Problem>
-    ensures value { IfOk result (FlagIn (field_in (unread reader.old)) word.now) }
-    ensures len { ahead reader.new ≤ ahead reader.old }
-    ensures exact { result ≡ flag_next word.now (unread reader.old) }
-{
-    let field = reader.field();
-    if field.is_empty() {
-        return Ok(false);
+    fn signed_number(&mut self) -> Result<i32, Problem>
+        ensures value { IfOk result (λ n. Signed (field_in (unread self.old)) (Ok n)) }
+        ensures after { unread self.new ≡ after_field (unread self.old) }
+        ensures exact { result ≡ signed_next (unread self.old) }
+    {
+        let field = self.required_field()?;
+        Ok(signed(field)?)
     }
-    if !is(field, word) {
-        return Err(Problem::ExtraField);
+
+    fn slot(&mut self) -> Result<Option<usize>, Problem>
+        ensures value { IfOk result (SlotIn (field_in (unread self.old))) }
+        ensures after { unread self.new ≡ after_field (unread self.old) }
+        ensures exact { result ≡ slot_next (unread self.old) }
+    {
+        let field = self.required_field()?;
+        if is(field, b"-") {
+            return Ok(None);
+        }
+        Ok(Some(unsigned(field)?))
     }
-    reader.end_line(Problem::ExtraField)?;
-    Ok(true)
-}
 
-pub(crate) fn rectangle(reader: &mut Reader<'_>) -> Result<IntegerBounds, Problem>
-    ensures value { IfOk result (RectangleIn (unread reader.old)) }
-    ensures len { ahead reader.new ≤ ahead reader.old }
-    ensures exact { result ≡ rectangle_in (unread reader.old) }
-{
-    let left = signed_number(reader)?;
-    let top = signed_number(reader)?;
-    let width = number(reader)?;
-    let height = number(reader)?;
-    reader.end_line(Problem::ExtraField)?;
-    Ok(IntegerBounds {
-        left,
-        top,
-        width,
-        height,
-    })
-}
+    fn sample_type(&mut self) -> Result<SampleType, Problem>
+        ensures value { IfOk result (λ found. TypeWord (field_in (unread self.old)) (Some found)) }
+        ensures after { unread self.new ≡ after_field (unread self.old) }
+        ensures exact { result ≡ type_next (unread self.old) }
+    {
+        let field = self.required_field()?;
+        sample_type_of(field).ok_or(Problem::UnknownSampleType)
+    }
 
-// The fields of a channel behind its name.
-fn channel_named(reader: &mut Reader<'_>, name: Part) -> Result<ChannelDescription, Problem>
-    ensures name { IfOk result (λ channel. channel.name ≡ name) }
-    ensures value { IfOk result (ChannelIn (unread reader.old)) }
-    ensures len { ahead reader.new ≤ ahead reader.old }
-    ensures exact { result ≡ channel_in name (unread reader.old) }
-{
-    let sample_type = sample_type(reader)?;
-    let x_sampling = number(reader)?;
-    let y_sampling = number(reader)?;
-    let quantize_linearly = ends_with(reader, b"linear")?;
-    Ok(ChannelDescription {
-        name,
-        sample_type,
-        x_sampling,
-        y_sampling,
-        quantize_linearly,
-    })
-}
+    fn scheme(&mut self) -> Result<CompressorScheme, Problem>
+        ensures value { IfOk result (λ found. SchemeWord (field_in (unread self.old)) (Some found)) }
+        ensures after { unread self.new ≡ after_field (unread self.old) }
+        ensures exact { result ≡ scheme_next (unread self.old) }
+    {
+        let field = self.required_field()?;
+        scheme_of(field).ok_or(Problem::UnknownScheme)
+    }
 
-// The fields of a rule behind its suffix.
-fn rule_for(reader: &mut Reader<'_>, suffix: Part) -> Result<Rule, Problem>
-    ensures suffix { IfOk result (λ rule. rule.suffix ≡ suffix) }
-    ensures value { IfOk result (RuleIn (unread reader.old)) }
-    ensures len { ahead reader.new ≤ ahead reader.old }
-    ensures exact { result ≡ rule_in suffix (unread reader.old) }
-{
-    let scheme = scheme(reader)?;
-    let sample_type = sample_type(reader)?;
-    let csc_index = slot(reader)?;
-    let case_insensitive = ends_with(reader, b"ignore-case")?;
-    Ok(Rule {
-        suffix,
-        scheme,
-        sample_type,
-        csc_index,
-        case_insensitive,
-    })
-}
+    // Whether the line ends with `word`; nothing else may stand there.
+    fn ends_with(mut self, word: &[u8]) -> Result<bool, Problem>
+        ensures value { IfOk result (FlagIn (field_in (unread self.entry)) word.now) }
+        ensures exact { result ≡ flag_next word.now (unread self.entry) }
+    {
+        let field = self.field();
+        if field.is_empty() {
+            return Ok(false);
+        }
+        if !is(field, word) {
+            return Err(Problem::ExtraField);
+        }
+        self.end_line(Problem::ExtraField)?;
+        Ok(true)
+    }
 
-// Adds the channel's name to `text`.
-pub(crate) fn channel(
-    reader: &mut Reader<'_>,
-    text: &mut Vec<u8>,
-) -> Result<ChannelDescription, Problem>
-    ensures len { ahead reader.new ≤ ahead reader.old }
-    ensures kept { vec_len text.old ≤ vec_len text.new }
-    ensures inside { IfOk result (λ channel. Inside (vec_len text.new) channel.name) }
-    ensures exact { MatchResult result (BehindName channel_in (unread reader.old) text.old.items text.new.items) (Fault (named_in channel_in text.old.items (unread reader.old))) }
-{
-    let name = quoted(reader, text)?;
-    channel_named(reader, name)
-}
+    pub(crate) fn rectangle(mut self) -> Result<IntegerBounds, Problem>
+        ensures value { IfOk result (RectangleIn (unread self.entry)) }
+        ensures exact { result ≡ rectangle_in (unread self.entry) }
+    {
+        let left = self.signed_number()?;
+        let top = self.signed_number()?;
+        let width = self.number()?;
+        let height = self.number()?;
+        self.end_line(Problem::ExtraField)?;
+        Ok(IntegerBounds {
+            left,
+            top,
+            width,
+            height,
+        })
+    }
 
-// Adds the rule's suffix to `text`.
-pub(crate) fn rule(reader: &mut Reader<'_>, text: &mut Vec<u8>) -> Result<Rule, Problem>
-    ensures len { ahead reader.new ≤ ahead reader.old }
-    ensures kept { vec_len text.old ≤ vec_len text.new }
-    ensures inside { IfOk result (λ rule. Inside (vec_len text.new) rule.suffix) }
-    ensures exact { MatchResult result (BehindName rule_in (unread reader.old) text.old.items text.new.items) (Fault (named_in rule_in text.old.items (unread reader.old))) }
-{
-    let suffix = quoted(reader, text)?;
-    rule_for(reader, suffix)
+    // The fields of a channel behind its name.
+    fn channel_named(mut self, name: Part) -> Result<ChannelDescription, Problem>
+        ensures name { IfOk result (λ channel. channel.name ≡ name) }
+        ensures value { IfOk result (ChannelIn (unread self.entry)) }
+        ensures exact { result ≡ channel_in name (unread self.entry) }
+    {
+        let sample_type = self.sample_type()?;
+        let x_sampling = self.number()?;
+        let y_sampling = self.number()?;
+        let quantize_linearly = self.ends_with(b"linear")?;
+        Ok(ChannelDescription {
+            name,
+            sample_type,
+            x_sampling,
+            y_sampling,
+            quantize_linearly,
+        })
+    }
+
+    // The fields of a rule behind its suffix.
+    fn rule_for(mut self, suffix: Part) -> Result<Rule, Problem>
+        ensures suffix { IfOk result (λ rule. rule.suffix ≡ suffix) }
+        ensures value { IfOk result (RuleIn (unread self.entry)) }
+        ensures exact { result ≡ rule_in suffix (unread self.entry) }
+    {
+        let scheme = self.scheme()?;
+        let sample_type = self.sample_type()?;
+        let csc_index = self.slot()?;
+        let case_insensitive = self.ends_with(b"ignore-case")?;
+        Ok(Rule {
+            suffix,
+            scheme,
+            sample_type,
+            csc_index,
+            case_insensitive,
+        })
+    }
+
+    // Adds the channel's name to `text`.
+    pub(crate) fn channel(mut self, text: &mut Vec<u8>) -> Result<ChannelDescription, Problem>
+        ensures { MatchResult result (BehindName channel_in (unread self.entry) text.old.items text.new.items) (Fault (named_in channel_in text.old.items (unread self.entry))) }
+    {
+        let name = self.quoted(text)?;
+        self.channel_named(name)
+    }
+
+    // Adds the rule's suffix to `text`.
+    pub(crate) fn rule(mut self, text: &mut Vec<u8>) -> Result<Rule, Problem>
+        ensures { MatchResult result (BehindName rule_in (unread self.entry) text.old.items text.new.items) (Fault (named_in rule_in text.old.items (unread self.entry))) }
+    {
+        let suffix = self.quoted(text)?;
+        self.rule_for(suffix)
+    }
 }

@@ -1,5 +1,5 @@
 // Goes through the bytes of a line, field by field.
-ghost use Rattle.std.specs.Prelude.{◌≡◌, ◌+◌, ◌<◌, ◌≤◌, length, IfOk, MatchOption, MatchResult, OnSome};
+ghost use Rattle.std.specs.Prelude.{◌≡◌, ◌<◌, length, IfOk, MatchOption, MatchResult, OnSome};
 ghost use Rattle.std.specs.List.{prefix_len};
 ghost use Rattle.plate_file.specs.Reading.{in_run, front, past, field_in, after_field, unread, ahead};
 ghost use Rattle.plate_file.specs.Steps.{ended};
@@ -51,9 +51,8 @@ pub(crate) struct Reader<'a> {
 
 impl<'a> Reader<'a> {
     // Takes the first line, which is the same in every file.
-    pub(crate) fn first_line(&mut self) -> Result<(), Problem>
-        ensures len { ahead self.new ≤ ahead self.old }
-        ensures exact { result ≡ first_in (unread self.old) }
+    pub(crate) fn first_line(mut self) -> Result<(), Problem>
+        ensures { result ≡ first_in (unread self.entry) }
     {
         let Some(rest) = self.left.strip_prefix(b"plate 1") else {
             return Err(Problem::NotAPlate);
@@ -66,7 +65,6 @@ impl<'a> Reader<'a> {
     pub(crate) fn pass(&mut self, run: Run) -> &'a [u8]
         ensures front { result.now ≡ front run (unread self.old) }
         ensures after { unread self.new ≡ past run (unread self.old) }
-        ensures len { length result.now + ahead self.new ≡ ahead self.old }
     {
         let (front, rest) = self.left.split_at(run.count(self.left));
         self.left = rest;
@@ -77,7 +75,6 @@ impl<'a> Reader<'a> {
     pub(crate) fn field(&mut self) -> &'a [u8]
         ensures value { result.now ≡ field_in (unread self.old) }
         ensures after { unread self.new ≡ after_field (unread self.old) }
-        ensures len { length result.now + ahead self.new ≤ ahead self.old }
     {
         self.pass(Run::Blanks);
         self.pass(Run::Field)
@@ -87,7 +84,6 @@ impl<'a> Reader<'a> {
     pub(crate) fn next_field(&mut self) -> Option<&'a [u8]>
         ensures value { MatchOption result (length (field_in (unread self.old)) ≡ 0) (λ field. (field.now ≡ field_in (unread self.old)) × (0 < length (field_in (unread self.old)))) }
         ensures after { unread self.new ≡ after_field (unread self.old) }
-        ensures len { ahead self.new ≤ ahead self.old }
         ensures goes { OnSome result (ahead self.new < ahead self.old) }
     {
         let field = self.field();
@@ -99,15 +95,13 @@ impl<'a> Reader<'a> {
         ensures value { IfOk result (λ field. field.now ≡ field_in (unread self.old)) }
         ensures exact { MatchResult result (λ field. (field.now ≡ field_in (unread self.old)) × (0 < length (field_in (unread self.old)))) (λ problem. (length (field_in (unread self.old)) ≡ 0) × (problem ≡ Problem.MissingField)) }
         ensures after { unread self.new ≡ after_field (unread self.old) }
-        ensures len { ahead self.new ≤ ahead self.old }
     {
         self.next_field().ok_or(Problem::MissingField)
     }
 
     // Refuses with `problem` what stands between here and the line's end.
-    pub(crate) fn end_line(&mut self, problem: Problem) -> Result<(), Problem>
-        ensures len { ahead self.new ≤ ahead self.old }
-        ensures exact { result ≡ ended problem (field_in (unread self.old)) }
+    pub(crate) fn end_line(mut self, problem: Problem) -> Result<(), Problem>
+        ensures { result ≡ ended problem (field_in (unread self.entry)) }
     {
         match self.field() {
             [] => Ok(()),

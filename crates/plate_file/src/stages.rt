@@ -1,6 +1,6 @@
 // What one line more makes of a draft.
-ghost use Rattle.std.specs.Prelude.{◌≡◌, ◌≤◌, Ok, Err, MatchResult};
-ghost use Rattle.plate_file.specs.Reading.{unread, ahead};
+ghost use Rattle.std.specs.Prelude.{◌≡◌, Ok, Err, MatchResult};
+ghost use Rattle.plate_file.specs.Reading.{unread};
 ghost use Rattle.plate_file.specs.File.{contents, progress, headed, in_dc, in_ac, is_idle, begun, line_after, Leads, finished};
 ghost use Rattle.plate_file.specs.Headings.{heading};
 
@@ -9,7 +9,6 @@ use crate::keywords::{Keyword, keyword_of};
 use crate::plate::{Header, Plate};
 use crate::problem::Problem;
 use crate::reader::Reader;
-use crate::streams::{add_words, count};
 use std::alloc::Global;
 
 // Whether the line is a comment or has no field.
@@ -19,29 +18,20 @@ fn is_idle(line: &[u8]) -> bool
     if let [b'#', ..] = line {
         return true;
     }
-    let mut reader = Reader { left: line };
-    reader.field().is_empty()
+    Reader { left: line }.field().is_empty()
 }
 
 // Behind the word `dc`.
-fn begin(heap: Global, header: Header, reader: &mut Reader<'_>) -> Result<Draft, Problem>
-    ensures len { ahead reader.new ≤ ahead reader.old }
-    ensures exact { Leads (begun (heading header) header.rectangle (unread reader.old)) result }
+fn begin(heap: Global, header: Header, reader: Reader<'_>) -> Result<Draft, Problem>
+    ensures { Leads (begun (heading header) header.rectangle (unread reader.entry)) result }
 {
-    let Header {
-        text,
-        channels,
-        rules,
-        rectangle,
-    } = header;
+    let Header { records, rectangle } = header;
     let Some(rectangle) = rectangle else {
         return Err(Problem::MissingRectangle);
     };
-    let count = count(reader)?;
+    let count = reader.count()?;
     let plate = Plate {
-        text,
-        channels,
-        rules,
+        records,
         rectangle,
         dc: Vec::new(heap),
         ac: Vec::new(heap),
@@ -49,21 +39,21 @@ fn begin(heap: Global, header: Header, reader: &mut Reader<'_>) -> Result<Draft,
     Ok(Draft::Dc(plate, count))
 }
 
-fn heading_line(heap: Global, mut header: Header, line: &[u8]) -> Result<Draft, Problem>
+fn heading_line(heap: Global, header: Header, line: &[u8]) -> Result<Draft, Problem>
     ensures { Leads (line_after (headed (heading header)) line.now) result }
 {
     if is_idle(line) {
         return Ok(Draft::Heading(header));
     }
     let mut reader = Reader { left: line };
-    match keyword_of(reader.field()) {
-        Some(Keyword::Rectangle) => header.add_rectangle(&mut reader)?,
-        Some(Keyword::Channel) => header.add_channel(&mut reader)?,
-        Some(Keyword::Rule) => header.add_rule(&mut reader)?,
-        Some(Keyword::Dc) => return begin(heap, header, &mut reader),
+    let header = match keyword_of(reader.field()) {
+        Some(Keyword::Rectangle) => header.with_rectangle(reader)?,
+        Some(Keyword::Channel) => header.with_channel(reader)?,
+        Some(Keyword::Rule) => header.with_rule(reader)?,
+        Some(Keyword::Dc) => return begin(heap, header, reader),
         Some(Keyword::Ac) => return Err(Problem::MissingStream),
         None => return Err(Problem::UnknownWord),
-    }
+    };
     Ok(Draft::Heading(header))
 }
 
@@ -75,12 +65,12 @@ fn dc_line(mut plate: Plate, to_come: usize, line: &[u8]) -> Result<Draft, Probl
     }
     let mut reader = Reader { left: line };
     if to_come > 0 {
-        let left = add_words(&mut reader, &mut plate.dc, to_come)?;
+        let left = reader.add_words(&mut plate.dc, to_come)?;
         return Ok(Draft::Dc(plate, left));
     }
     match keyword_of(reader.field()) {
         Some(Keyword::Ac) => {
-            let count = count(&mut reader)?;
+            let count = reader.count()?;
             Ok(Draft::Ac(plate, count))
         }
         Some(_) => Err(Problem::OutOfPlace),
@@ -96,7 +86,7 @@ fn ac_line(mut plate: Plate, to_come: usize, line: &[u8]) -> Result<Draft, Probl
     }
     let mut reader = Reader { left: line };
     if to_come > 0 {
-        let left = add_words(&mut reader, &mut plate.ac, to_come)?;
+        let left = reader.add_words(&mut plate.ac, to_come)?;
         return Ok(Draft::Ac(plate, left));
     }
     match keyword_of(reader.field()) {
@@ -112,8 +102,7 @@ impl Draft {
     {
         match self {
             Draft::Opening => {
-                let mut reader = Reader { left: line };
-                reader.first_line()?;
+                Reader { left: line }.first_line()?;
                 Ok(Draft::Heading(Header::new(heap)))
             }
             Draft::Heading(header) => heading_line(heap, header, line),

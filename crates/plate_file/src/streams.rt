@@ -1,6 +1,6 @@
 // A stream: a count, and then as many words.
-ghost use Rattle.std.specs.Prelude.{◌≡◌, ◌≤◌, IfOk, Ok, MatchResult};
-ghost use Rattle.plate_file.specs.Reading.{field_in, unread, ahead};
+ghost use Rattle.std.specs.Prelude.{◌≡◌, IfOk, Ok, MatchResult};
+ghost use Rattle.plate_file.specs.Reading.{field_in, unread};
 ghost use Rattle.plate_file.specs.Fields.{fields_of};
 ghost use Rattle.plate_file.specs.Decimal.{Unsigned};
 ghost use Rattle.plate_file.specs.Steps.{Fault};
@@ -8,20 +8,8 @@ ghost use Rattle.plate_file.specs.Streams.{count_in, word_in, longer};
 
 use crate::hex::hex_word;
 use crate::keywords::keyword_of;
-use crate::lines::number;
 use crate::problem::Problem;
 use crate::reader::Reader;
-
-// Behind the word `dc` or `ac`.
-pub(crate) fn count(reader: &mut Reader<'_>) -> Result<usize, Problem>
-    ensures count { IfOk result (λ n. Unsigned (field_in (unread reader.old)) (Ok n)) }
-    ensures len { ahead reader.new ≤ ahead reader.old }
-    ensures exact { result ≡ count_in (unread reader.old) }
-{
-    let count = number(reader)?;
-    reader.end_line(Problem::ExtraField)?;
-    Ok(count)
-}
 
 fn word_of(field: &[u8]) -> Result<u16, Problem>
     ensures { result ≡ word_in field.now }
@@ -33,22 +21,33 @@ fn word_of(field: &[u8]) -> Result<u16, Problem>
     }
 }
 
-// Adds the words of a line to `words`. `to_come` more are due at its start; the answer is how many are at its end.
-pub(crate) fn add_words(
-    reader: &mut Reader<'_>,
-    words: &mut Vec<u16>,
-    to_come: usize,
-) -> Result<usize, Problem>
-    ensures len { ahead reader.new ≤ ahead reader.old }
-    ensures exact { MatchResult result (λ left. longer words.old.items to_come (fields_of (unread reader.old)) ≡ Ok (record { words = words.new.items; left = left })) (Fault (longer words.old.items to_come (fields_of (unread reader.old)))) }
-{
-    let mut left = to_come;
-    while let Some(field) = reader.next_field() {
-        if left == 0 {
-            return Err(Problem::TooManyWords);
-        }
-        words.push(word_of(field)?)?;
-        left -= 1;
+impl Reader<'_> {
+    // Behind the word `dc` or `ac`.
+    pub(crate) fn count(mut self) -> Result<usize, Problem>
+        ensures count { IfOk result (λ n. Unsigned (field_in (unread self.entry)) (Ok n)) }
+        ensures exact { result ≡ count_in (unread self.entry) }
+    {
+        let count = self.number()?;
+        self.end_line(Problem::ExtraField)?;
+        Ok(count)
     }
-    Ok(left)
+
+    // Adds the words of a line to `words`. `to_come` more are due at its start; the answer is how many are at its end.
+    pub(crate) fn add_words(
+        mut self,
+        words: &mut Vec<u16>,
+        to_come: usize,
+    ) -> Result<usize, Problem>
+        ensures { MatchResult result (λ left. longer words.old.items to_come (fields_of (unread self.entry)) ≡ Ok (record { words = words.new.items; left = left })) (Fault (longer words.old.items to_come (fields_of (unread self.entry)))) }
+    {
+        let mut left = to_come;
+        while let Some(field) = self.next_field() {
+            if left == 0 {
+                return Err(Problem::TooManyWords);
+            }
+            words.push(word_of(field)?)?;
+            left -= 1;
+        }
+        Ok(left)
+    }
 }

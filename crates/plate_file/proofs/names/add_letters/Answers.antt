@@ -10,25 +10,14 @@ use Rattle.plate_file.proofs.names.add_letters.Goals as goal
 pub returns-in_default : goal.returns-in_default
 returns-in_default c =
     let none = grown-none (vec_items c.loop-left.text) c.loop-left.left.now (let some = eqb-false _ 0 (sym c.is_empty.ensures ∙ c.loop-left-test.true) in omega arith) c.in_default.ensures.value in
-    record { kept = c.loop-left.invariant.0; value = inr (ap (found BadName) (no_name _ c.args.written.now (c.loop-left.invariant.1 ∙ none))) }
-
-pub returns-in_err-push : goal.returns-in_err-push
-returns-in_err-push c =
-    let p = err_from_is_err_and c.from_residual.result c.from_residual.ensures.1 in
-    record { kept = search rules; value = rw p.1 (inl p.2) }
+    inr (ap (found BadName) (no_name _ c.args.written.now (c.loop-left.invariant ∙ none)))
 
 pub loop-left-preserved : goal.loop-left-preserved
 loop-left-preserved c =
-    let bs = c.loop-left.left.now in (
-      search rules,
-      c.loop-left.invariant.1
-          ∙ grown-more (vec_items c.loop-left.text) bs c.in-Some.rest.now c.in-Some.byte (let some = eqb-false _ 0 (sym c.is_empty.ensures ∙ c.loop-left-test.true) in omega arith) c.in-Some.ensures.value c.in-Some.ensures.after
-          ∙ ap (λ text. grown text c.in-Some.rest.now) (sym c.in_ok-push.ensures.items),
-    )
+    let bs = c.loop-left.left.now in
+    c.loop-left.invariant
+    ∙ grown-more (vec_items c.loop-left.text) bs c.in-Some.rest.now c.in-Some.byte (let some = eqb-false _ 0 (sym c.is_empty.ensures ∙ c.loop-left-test.true) in omega arith) c.in-Some.ensures.value c.in-Some.ensures.after
+    ∙ ap (λ text. grown text c.in-Some.rest.now) (sym c.in_ok-push.ensures.items)
 
 pub returns : goal.returns
-returns c =
-    record {
-      kept = c.loop-left.invariant.0;
-      value = c.loop-left.invariant.1 ∙ grown-all _ c.loop-left.left.now (nil_from_length _ (eqb-true _ 0 (sym c.is_empty.ensures ∙ c.loop-left-test.false)));
-    }
+returns c = c.loop-left.invariant ∙ grown-all _ c.loop-left.left.now (nil_from_length _ (eqb-true _ 0 (sym c.is_empty.ensures ∙ c.loop-left-test.false)))

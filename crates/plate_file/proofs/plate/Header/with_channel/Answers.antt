@@ -1,0 +1,15 @@
+use Rattle.std.proofs.Common.{vec_items}
+use Rattle.channel_rules.specs.Triplets.{no_channel, no_rule}
+use Rattle.plate_file.proofs.Added.{still_inside, one_more, channel_inside}
+use Rattle.plate_file.proofs.plate.Header.with_channel.Goals as goal
+
+-- the text has only grown, and the new name lies inside it
+pub invariant_of-records : goal.invariant_of-records
+invariant_of-records c =
+    let old = vec_items c.args.self.records.text in
+    let new = vec_items c.channel.new.text in
+    let added = c.in_ok-channel.ensures in
+    record {
+      named = one_more (λ channel. channel.name) no_channel new _ _ c.in_ok-channel.channel c.in_ok-push.ensures.items (still_inside (λ channel. channel.name) no_channel old added.0 new _ added.2 c.args.self.records.named) (channel_inside c.args.reader.left.now old new c.in_ok-channel.channel added);
+      suffixed = still_inside (λ rule. rule.suffix) no_rule old added.0 new _ added.2 c.args.self.records.suffixed;
+    }
