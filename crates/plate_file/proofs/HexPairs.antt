@@ -30,12 +30,5 @@ word_pairs (a ∷ b ∷ []) e = absurd (omega arith)
 word_pairs (a ∷ b ∷ c ∷ []) e = absurd (omega arith)
 word_pairs (a ∷ b ∷ c ∷ d ∷ x ∷ bs) e = absurd (omega arith)
 
-module _ (bs : List ℕ) (long : length bs ≡ 4) where
-  pub no_high : None ≡ hex_pair (get_or bs 0 0 ∷ get_or bs 1 0 ∷ []) → None ≡ hex_word bs
-  no_high h = ap (λ p. pairs p (hex_pair (get_or bs 2 0 ∷ get_or bs 3 0 ∷ []))) h ∙ sym (word_pairs bs long)
-
-  pub no_low : (h : ℕ) → Some h ≡ hex_pair (get_or bs 0 0 ∷ get_or bs 1 0 ∷ []) → None ≡ hex_pair (get_or bs 2 0 ∷ get_or bs 3 0 ∷ []) → None ≡ hex_word bs
-  no_low h p q = (λ i. pairs (p i) (q i)) ∙ sym (word_pairs bs long)
-
-  pub both : (h l : ℕ) → Some h ≡ hex_pair (get_or bs 0 0 ∷ get_or bs 1 0 ∷ []) → Some l ≡ hex_pair (get_or bs 2 0 ∷ get_or bs 3 0 ∷ []) → Some (h * 256 + l) ≡ hex_word bs
-  both h l p q = (λ i. pairs (p i) (q i)) ∙ sym (word_pairs bs long)
+pub no_low : (bs : List ℕ) (h : ℕ) → length bs ≡ 4 → Some h ≡ hex_pair (get_or bs 0 0 ∷ get_or bs 1 0 ∷ []) → None ≡ hex_pair (get_or bs 2 0 ∷ get_or bs 3 0 ∷ []) → None ≡ hex_word bs
+no_low bs h long p q = (λ i. pairs (p i) (q i)) ∙ sym (word_pairs bs long)

@@ -1,4 +1,5 @@
-mod HexPairs
+mod Tables
+pub mod HexPairs
 mod Numerals
 mod Letters
 mod Quotes

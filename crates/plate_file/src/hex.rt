@@ -2,6 +2,7 @@
 ghost use Rattle.std.specs.Prelude.{◌≡◌, [], ◌∷◌};
 ghost use Rattle.plate_file.specs.Hex.{hex_digit, hex_pair, hex_word};
 
+// By hand, since std's `to_digit` takes capitals too.
 fn hex_digit(byte: u8) -> Option<u8>
     ensures { result ≡ hex_digit byte }
 {
@@ -22,6 +23,7 @@ pub(crate) fn hex_pair(high: u8, low: u8) -> Option<u8>
 }
 
 // The word that a field of four digits writes.
+#[tactic(auto, using(crate::proofs::HexPairs::no_low))]
 pub(crate) fn hex_word(field: &[u8]) -> Option<u16>
     ensures { result ≡ hex_word field.now }
 {
@@ -30,5 +32,5 @@ pub(crate) fn hex_word(field: &[u8]) -> Option<u16>
     };
     let high = hex_pair(*a, *b)?;
     let low = hex_pair(*c, *d)?;
-    Some(u16::from(high) * 256 + u16::from(low))
+    Some(u16::from_be_bytes([high, low]))
 }

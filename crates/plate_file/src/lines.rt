@@ -7,7 +7,7 @@ ghost use Rattle.plate_file.specs.Lines.{RectangleIn, ChannelIn, RuleIn, SlotIn,
 ghost use Rattle.plate_file.specs.Words.{TypeWord, SchemeWord};
 ghost use Rattle.plate_file.specs.Reading.{field_in, after_field, unread};
 
-use crate::keywords::{is, sample_type_of, scheme_of};
+use crate::keywords::{sample_type_of, scheme_of};
 use crate::numbers::{signed, unsigned};
 use crate::problem::Problem;
 use crate::reader::Reader;
@@ -37,11 +37,10 @@ impl Reader<'_> {
         ensures after { unread self.new ≡ after_field (unread self.old) }
         ensures exact { result ≡ slot_next (unread self.old) }
     {
-        let field = self.required_field()?;
-        if is(field, b"-") {
-            return Ok(None);
+        match self.required_field()? {
+            b"-" => Ok(None),
+            field => Ok(Some(unsigned(field)?)),
         }
-        Ok(Some(unsigned(field)?))
     }
 
     fn sample_type(&mut self) -> Result<SampleType, Problem>
@@ -71,7 +70,7 @@ impl Reader<'_> {
         if field.is_empty() {
             return Ok(false);
         }
-        if !is(field, word) {
+        if field != word {
             return Err(Problem::ExtraField);
         }
         self.end_line(Problem::ExtraField)?;

@@ -26,10 +26,7 @@ fn escape(bytes: &[u8]) -> Option<(u8, &[u8])>
     let [b'\\', b'x', high, low, rest @ ..] = bytes else {
         return None;
     };
-    match hex_pair(*high, *low) {
-        Some(byte) => Some((byte, rest)),
-        None => None,
-    }
+    Some((hex_pair(*high, *low)?, rest))
 }
 
 // The byte that is written at the front of `bytes`, and what follows it.

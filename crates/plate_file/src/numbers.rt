@@ -1,14 +1,24 @@
 // Decimal numbers.
 ghost use Rattle.std.specs.Prelude.{◌≡◌, ◌+◌, ◌*◌, ◌^◌, ◌<◌, Decides};
 ghost use Rattle.std.specs.Option.{SomeIff};
-ghost use Rattle.plate_file.specs.Decimal.{Numeral, Unsigned, Positive, Negative, Signed, is_numeral, unsigned_in, positive_in, negative_in, signed_in};
+ghost use Rattle.plate_file.specs.declared.numbers.NumberFault.TheVariants.{OutOfRange};
+ghost use Rattle.plate_file.specs.Decimal.{Numeral, Unsigned, Signed, is_numeral, unsigned_in, signed_in};
 
 use crate::reader::Run;
+use std::num::TryFromIntError;
 
 #[derive(Clone, Copy, PartialEq, Eq, Debug)]
 pub enum NumberFault {
     NotANumber,
     OutOfRange,
+}
+
+impl From<TryFromIntError> for NumberFault {
+    ghost from_gives = { λ _ r. r ≡ OutOfRange };
+
+    fn from(_e: TryFromIntError) -> NumberFault {
+        NumberFault::OutOfRange
+    }
 }
 
 fn is_numeral(field: &[u8]) -> bool
@@ -42,34 +52,15 @@ pub(crate) fn unsigned(field: &[u8]) -> Result<usize, NumberFault>
     Ok(value)
 }
 
-fn positive(digits: &[u8]) -> Result<i32, NumberFault>
-    ensures reads { Positive digits.now result }
-    ensures exact { result ≡ positive_in digits.now }
-{
-    let magnitude = unsigned(digits)?;
-    if magnitude > 0x7fff_ffff {
-        return Err(NumberFault::OutOfRange);
-    }
-    Ok(magnitude as i32)
-}
-
-fn negative(digits: &[u8]) -> Result<i32, NumberFault>
-    ensures reads { Negative digits.now result }
-    ensures exact { result ≡ negative_in digits.now }
-{
-    let magnitude = unsigned(digits)?;
-    if magnitude > 0x8000_0000 {
-        return Err(NumberFault::OutOfRange);
-    }
-    Ok(-(magnitude as i64) as i32)
-}
-
 pub(crate) fn signed(field: &[u8]) -> Result<i32, NumberFault>
     ensures reads { Signed field.now result }
     ensures exact { result ≡ signed_in field.now }
 {
     match field {
-        [b'-', digits @ ..] => negative(digits),
-        _ => positive(field),
+        [b'-', digits @ ..] => {
+            let magnitude = i64::try_from(unsigned(digits)?)?;
+            Ok(i32::try_from(-magnitude)?)
+        }
+        _ => Ok(i32::try_from(unsigned(field)?)?),
     }
 }

@@ -22,10 +22,10 @@ impl Run {
         ensures { result ≡ in_run self byte }
     {
         match self {
-            Run::Blanks => byte == b' ' || byte == b'\t',
-            Run::Field => byte != b' ' && byte != b'\t' && byte != b'\n',
+            Run::Blanks => matches!(byte, b' ' | b'\t'),
+            Run::Field => !matches!(byte, b' ' | b'\t' | b'\n'),
             Run::Letters => byte != b'"',
-            Run::Digits => byte >= b'0' && byte <= b'9',
+            Run::Digits => byte.is_ascii_digit(),
             Run::Line => byte != b'\n',
         }
     }
@@ -34,12 +34,7 @@ impl Run {
     pub(crate) fn count(self, bytes: &[u8]) -> usize
         ensures { result ≡ prefix_len (in_run self) bytes.now }
     {
-        for (i, byte) in bytes.iter().enumerate() {
-            if !self.takes(*byte) {
-                return i;
-            }
-        }
-        bytes.len()
+        bytes.iter().take_while(|byte| self.takes(**byte)).count()
     }
 }
 
