@@ -33,8 +33,8 @@ no_blank b e = at (eqb b 32) (eqb b 9) (eqb b 10) e
   where
     at : (x y z : Bool) → (not x && not y && not z) ≡ true → (x || y) ≡ false
     at false false z e = refl
-    at false true z e = absurd (let z : ◌≡◌ {A = ℕ} 0 1 = cc in omega arith)
-    at true y z e = absurd (let z : ◌≡◌ {A = ℕ} 0 1 = cc in omega arith)
+    at false true z e = cc
+    at true y z e = cc
 
 -- the fields of a line by its first byte
 abbrev by_first : ℕ → List ℕ → Bool → Bool → List (List ℕ)
@@ -76,13 +76,13 @@ no_fields bs e = fields_step bs ∙ at (field_in bs) e
   where
     at : (field : List ℕ) → length field ≡ 0 → with_field field (after_field bs) ≡ []
     at [] e = refl
-    at (b ∷ field) e = absurd (let z : ⊥ = omega arith in z)
+    at (b ∷ field) e = absurd (omega arith)
 
 pub first_field : (bs : List ℕ) → 0 < length (field_in bs) → fields_of bs ≡ field_in bs ∷ fields_of (after_field bs)
 first_field bs h = fields_step bs ∙ at (field_in bs) h
   where
     at : (field : List ℕ) → 0 < length field → with_field field (after_field bs) ≡ field ∷ fields_of (after_field bs)
-    at [] h = absurd (let z : ⊥ = omega arith in z)
+    at [] h = absurd (omega arith)
     at (b ∷ field) h = refl
 
 -- the lines behind a line's end
@@ -107,20 +107,20 @@ last_line bs rest e h = first_line_cut bs ∙ ap (λ q. front Line bs ∷ lines_
   where
     at : (rest : List ℕ) → length rest ≡ 0 → lines_behind rest ≡ []
     at [] h = refl
-    at (b ∷ rest) h = absurd (let z : ⊥ = omega arith in z)
+    at (b ∷ rest) h = absurd (omega arith)
 
 pub next_lines : (bs rest : List ℕ) → rest ≡ past Line bs → 0 < length rest → lines_of bs ≡ front Line bs ∷ lines_of (drop 1 rest)
 next_lines bs rest e h = first_line_cut bs ∙ ap (λ q. front Line bs ∷ lines_behind q) (sym e) ∙ ap (λ ls. front Line bs ∷ ls) (at rest h)
   where
     at : (rest : List ℕ) → 0 < length rest → lines_behind rest ≡ lines_of (drop 1 rest)
-    at [] h = absurd (let z : ⊥ = omega arith in z)
+    at [] h = absurd (omega arith)
     at (b ∷ rest) h = refl
 
 pub some_line : (bs : List ℕ) → 0 < length (lines_of bs)
 some_line bs = rw (first_line_cut bs) (omega arith)
 
 length-on_first : (b : ℕ) (ls : List (List ℕ)) → 0 < length ls → length (on_first b ls) ≡ length ls
-length-on_first b [] h = absurd (let z : ⊥ = omega arith in z)
+length-on_first b [] h = absurd (omega arith)
 length-on_first b (l ∷ ls) h = refl
 
 -- a file has one line more than line feeds

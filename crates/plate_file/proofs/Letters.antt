@@ -15,7 +15,7 @@ behind zero (b ∷ bs) = refl
 behind (suc n) (b ∷ bs) = behind n bs
 
 pub first_letter : (bs : List ℕ) → 0 < length bs → letters_in bs ≡ before (letter_in bs) (letters_in (drop (letter_size bs) bs))
-first_letter [] h = absurd (let z : ⊥ = omega arith in z)
+first_letter [] h = absurd (omega arith)
 first_letter (b ∷ bs) h =
     ap (before (letter_in (b ∷ bs)))
     (elim (is_plain b) as (λ t. letters_behind (cond t 1 4 - 1) bs ≡ letters_in (drop (cond t 1 4) (b ∷ bs))) [ true ↦ behind 0 bs | false ↦ behind 3 bs ])
@@ -44,14 +44,14 @@ no_name text bs e = at (letters_in bs) e
   where
     at : (o : Option (List ℕ)) → option_map (λ name. text ++ name) o ≡ None → o ≡ None
     at None e = refl
-    at (Some name) e = absurd (let z : ◌≡◌ {A = ℕ} 0 1 = cc in omega arith)
+    at (Some name) e = cc
 
 -- a text has only grown by letters
 pub grown-ge : (text bs new : List ℕ) → grown text bs ≡ Some new → length text ≤ length new
 grown-ge text bs new e = at (letters_in bs) e
   where
     at : (o : Option (List ℕ)) → option_map (λ name. text ++ name) o ≡ Some new → length text ≤ length new
-    at None e = absurd (let z : ◌≡◌ {A = ℕ} 0 1 = cc in omega arith)
+    at None e = cc
     at (Some name) e = let joined : text ++ name ≡ new = cc in omega (arith, length-append text name, ap length joined)
 
 -- what was read between the quotes has been put behind the text
@@ -59,7 +59,7 @@ pub name_added : (bs old new written : List ℕ) (start len : ℕ) → written_i
 name_added bs old new written start len is grew starts long = at (letters_in written) refl grew
   where
     at : (o : Option (List ℕ)) → letters_in written ≡ o → option_map (λ name. old ++ name) o ≡ Some new → NameAdded bs old new (record { start = start; len = len })
-    at None reads grew = absurd (let z : ◌≡◌ {A = ℕ} 0 1 = cc in omega arith)
+    at None reads grew = cc
     at (Some name) reads grew =
         let joined : old ++ name ≡ new = cc in
         let more : len ≡ length name = omega (arith, length-append old name, ap length joined) in

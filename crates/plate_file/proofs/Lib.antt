@@ -4,7 +4,6 @@ mod Numerals
 mod Letters
 mod Quotes
 mod Added
-mod Sequence
 mod Cutting
 mod StreamWords
 mod Runs

@@ -1,7 +1,7 @@
 -- What digits write: one digit more, and numbers of fewer bits.
 use Rattle.std.proofs.Common.{◌≡◌, ℕ, zero, suc, ◌+◌, ◌-◌, ◌*◌, ◌<◌, ◌≤◌, Bool, true, false, cond, not, ◌&&◌, eqb, leb, List, [], ◌∷◌, length, get_or, take, drop, Ok, Err, fold, Result, sym, refl, ap, ◌∙◌, subst, arith, Decides, MatchBool, ℤ, pos, neg_ℤ}
 use Rattle.std.specs.List.{prefix_len}
-use Rattle.std.proofs.lemmas.List.Sums.{fold_more, prefix_len_is}
+use Rattle.std.proofs.lemmas.List.Sums.{fold_more, prefix_len_is, prefix_len_passes}
 use Rattle.std.proofs.lemmas.Bool.{and_parts, eqb-true, eq-eqb, ne_eqb, leb-true, leb-false, le-leb, lt-leb}
 use Rattle.plate_file.specs.declared.reader.Run.TheVariants.{Digits}
 use Rattle.plate_file.specs.declared.numbers.NumberFault.{NumberFault}
@@ -27,29 +27,23 @@ value-take bs k = after-take 0 bs k
 pub value-more : (bs : List ℕ) (i : ℕ) → i < length bs → value (take (i + 1) bs) ≡ value (take i bs) * 10 + (get_or bs i 0 - 48)
 value-more bs i h = fold_more (λ sum byte. sum * 10 + (byte - 48)) 0 bs i 0 h
 
-every : (p : ℕ → Bool) (bs : List ℕ) (k : ℕ) → prefix_len p bs ≡ length bs → k < length bs → p (get_or bs k 0) ≡ true
-every p [] k e h = absurd (let z : ⊥ = omega arith in z)
-every p (b ∷ bs) k e h = at (every p bs) (p b) refl e k h
-  where
-    at : ((k : ℕ) → prefix_len p bs ≡ length bs → k < length bs → p (get_or bs k 0) ≡ true) → (t : Bool) → p b ≡ t → cond t (1 + prefix_len p bs) 0 ≡ suc (length bs) → (k : ℕ) → k < suc (length bs) → p (get_or (b ∷ bs) k 0) ≡ true
-    at more true is e zero h = is
-    at more true is e (suc k) h = more k (omega arith) (omega arith)
-    at more false is e k h = absurd (let z : ⊥ = omega arith in z)
+digit : (bs : List ℕ) (k : ℕ) → prefix_len (in_run Digits) bs ≡ length bs → k < length bs → in_run Digits (get_or bs k 0) ≡ true
+digit bs k whole h = prefix_len_passes (in_run Digits) bs k 0 (omega arith)
 
 pub digit_at : (bs : List ℕ) (k : ℕ) → is_numeral bs ≡ true → k < length bs → 48 ≤ get_or bs k 0
 digit_at bs k e h =
     let whole = eqb-true _ _ (and_parts _ _ e).1 in
-    leb-true 48 _ (and_parts _ _ (every (in_run Digits) bs k whole h)).0
+    leb-true 48 _ (and_parts _ _ (digit bs k whole h)).0
 
 digits : (bs : List ℕ) → is_numeral bs ≡ true → Numeral bs
 digits bs e =
     let whole = eqb-true _ _ (and_parts _ _ e).1 in (
       some bs (and_parts _ _ e).0,
-      λ k h. let both = and_parts _ _ (every (in_run Digits) bs k whole h) in (leb-true 48 _ both.0, leb-true _ 57 both.1),
+      λ k h. let both = and_parts _ _ (digit bs k whole h) in (leb-true 48 _ both.0, leb-true _ 57 both.1),
     )
   where
     some : (bs : List ℕ) → not (eqb (length bs) 0) ≡ true → 0 < length bs
-    some [] e = absurd (let z : ◌≡◌ {A = ℕ} 0 1 = cc in omega arith)
+    some [] e = cc
     some (b ∷ bs) e = omega arith
 
 tested : (bs : List ℕ) → Numeral bs → is_numeral bs ≡ true
@@ -58,7 +52,7 @@ tested bs n =
     let whole : prefix_len (in_run Digits) bs ≡ length bs =
     prefix_len_is (in_run Digits) bs (length bs) 0 (omega arith)
     (λ k h. (λ i. le-leb 48 (get_or bs k 0) (n.1 k h).0 i && le-leb (get_or bs k 0) 57 (n.1 k h).1 i))
-    (λ h. absurd (let z : ⊥ = omega arith in z))
+    (λ h. absurd (omega arith))
     in
     λ i. not (some i) && eq-eqb (prefix_len (in_run Digits) bs) (length bs) whole i
 
@@ -73,17 +67,10 @@ number_reads worth most bs = at (is_numeral bs) refl (leb (value bs) most) refl
     at : (t : Bool) → is_numeral bs ≡ t → (u : Bool) → leb (value bs) most ≡ u → Reads worth most bs (cond t (cond u (Ok (worth (value bs))) (Err OutOfRange)) (Err NotANumber))
     at true e true h = (digits bs e, leb-true _ _ h, refl)
     at true e false h = (digits bs e, leb-false _ _ h)
-    at false e u h = λ n. let z : ◌≡◌ {A = ℕ} 0 1 = cc (sym e ∙ tested bs n) in omega arith
+    at false e u h = λ n. cc (sym e ∙ tested bs n)
 
 pub reads_from : {N : Type 0} (worth : ℕ → N) (most : ℕ) (bs : List ℕ) (r : Result N NumberFault) → r ≡ number_in worth most bs → Reads worth most bs r
 reads_from worth most bs r e = subst (Reads worth most bs) (sym e) (number_reads worth most bs)
-
-pub signed_from : (bs : List ℕ) (r : Result ℤ NumberFault) → r ≡ signed_in bs → Signed bs r
-signed_from bs r e = at (eqb (get_or bs 0 0) 45) e
-  where
-    at : (t : Bool) → r ≡ cond t (negative_in (drop 1 bs)) (positive_in bs) → MatchBool t (Negative (drop 1 bs) r) (Positive bs r)
-    at true e = reads_from (λ n. neg_ℤ (pos n)) 0x8000_0000 (drop 1 bs) r e
-    at false e = reads_from pos 0x7fff_ffff bs r e
 
 module _ {N : Type 0} (worth : ℕ → N) (most : ℕ) where
   abbrev reading : Bool → ℕ → Result N NumberFault
@@ -94,22 +81,3 @@ module _ {N : Type 0} (worth : ℕ → N) (most : ℕ) where
 
   pub too_large : (bs : List ℕ) → is_numeral bs ≡ true → most < value bs → Err OutOfRange ≡ number_in worth most bs
   too_large bs e h = sym (ap (λ t. reading t (value bs)) e ∙ ap (λ t. cond t (Ok (worth (value bs))) (Err OutOfRange)) (lt-leb (value bs) most h))
-
-  -- what has no 64 bits has no fewer
-  fails : most ≤ 0xffff_ffff_ffff_ffff → (p : NumberFault) (t u : Bool) (v : ℕ) → leb v 0xffff_ffff_ffff_ffff ≡ u → Err p ≡ cond t (cond u (Ok v) (Err OutOfRange)) (Err NotANumber) → Err p ≡ reading t v
-  fails few p false u v l e = let same : p ≡ NotANumber = cc in ap Err same
-  fails few p true true v l e = absurd (let z : ◌≡◌ {A = ℕ} 0 1 = cc in omega arith)
-  fails few p true false v l e =
-      let same : p ≡ OutOfRange = cc in
-      ap Err same ∙ sym (ap (λ t. cond t (Ok (worth v)) (Err OutOfRange)) (lt-leb v most (omega (arith, leb-false v 0xffff_ffff_ffff_ffff l))))
-
-  pub no_fewer : most ≤ 0xffff_ffff_ffff_ffff → (bs : List ℕ) (p : NumberFault) → Err p ≡ unsigned_in bs → Err p ≡ number_in worth most bs
-  no_fewer few bs p e = fails few p (is_numeral bs) (leb (value bs) 0xffff_ffff_ffff_ffff) (value bs) refl e
-
-read : (t u : Bool) (v n : ℕ) → Ok n ≡ cond t (cond u (Ok v) (Err OutOfRange)) (Err NotANumber) → (t ≡ true) × (n ≡ v)
-read false u v n e = absurd (let z : ◌≡◌ {A = ℕ} 0 1 = cc in omega arith)
-read true false v n e = absurd (let z : ◌≡◌ {A = ℕ} 0 1 = cc in omega arith)
-read true true v n e = (refl, (cc))
-
-pub numeral : (bs : List ℕ) (n : ℕ) → Ok n ≡ unsigned_in bs → (is_numeral bs ≡ true) × (n ≡ value bs)
-numeral bs n e = read (is_numeral bs) (leb (value bs) 0xffff_ffff_ffff_ffff) (value bs) n e

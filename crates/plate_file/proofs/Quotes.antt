@@ -9,13 +9,8 @@ use Rattle.plate_file.specs.Fields.{goes_on}
 use Rattle.plate_file.specs.Quoted.{opened, closed, written_in, after_name, Opens}
 
 quote_first : (q : List ℕ) → 0 < length q → get_or q 0 0 ≡ 34 → opened q ≡ closed (front Letters (drop 1 q)) (past Letters (drop 1 q))
-quote_first [] h e = absurd (let z : ⊥ = omega arith in z)
+quote_first [] h e = absurd (omega arith)
 quote_first (b ∷ bs) h e = ap (λ t. cond t (closed (front Letters bs) (past Letters bs)) (Err BadName)) (eq-eqb b 34 e)
-
--- q is the line from the opening quote on
-pub opens_with : (bs q r : List ℕ) → q ≡ past Blanks bs → 0 < length q → get_or q 0 0 ≡ 34 → r ≡ drop 1 q → Opens bs r
-opens_with bs q r opens some quote follows =
-    record { some = omega (arith, ap length opens); quote = sym (ap (λ q. get_or q 0 0) opens) ∙ quote; follows = follows ∙ ap (drop 1) opens }
 
 -- r is what follows the quote, and e the line from the closing quote on
 module _ (bs r e : List ℕ) (o : Opens bs r) (ends : e ≡ past Letters r) where
@@ -29,14 +24,14 @@ module _ (bs r e : List ℕ) (o : Opens bs r) (ends : e ≡ past Letters r) wher
 
 pub never_closed : (w e : List ℕ) → length e ≡ 0 → closed w e ≡ Err BadName
 never_closed w [] h = refl
-never_closed w (b ∷ e) h = absurd (let z : ⊥ = omega arith in z)
+never_closed w (b ∷ e) h = absurd (omega arith)
 
 run_on : (bs : List ℕ) → goes_on bs ≡ not (eqb (prefix_len (in_run Field) bs) 0)
 run_on [] = refl
 run_on (b ∷ bs) = elim (in_run Field b) as (λ t. t ≡ not (eqb (cond t (1 + prefix_len (in_run Field) bs) 0) 0)) [ false ↦ refl | true ↦ sym (ap not (ne_eqb (1 + prefix_len (in_run Field) bs) 0 (λ e. omega arith))) ]
 
 closed_at : (w e : List ℕ) → 0 < length e → closed w e ≡ cond (eqb (prefix_len (in_run Field) (drop 1 e)) 0) (Ok w) (Err BadName)
-closed_at w [] h = absurd (let z : ⊥ = omega arith in z)
+closed_at w [] h = absurd (omega arith)
 closed_at w (b ∷ e) h =
     ap (λ t. cond t (Err BadName) (Ok w)) (run_on e)
     ∙ elim (eqb (prefix_len (in_run Field) e) 0) as (λ t. cond (not t) (Err BadName) (Ok w) ≡ cond t (Ok w) (Err BadName)) [ true ↦ refl | false ↦ refl ]

@@ -14,12 +14,11 @@ use Rattle.plate_file.specs.File.{Progress, is_idle, line_after}
 use Rattle.plate_file.specs.Writes.{fields_said}
 use Rattle.plate_file.proofs.Cutting.{first_field}
 use Rattle.plate_file.proofs.Runs.{Reads}
-use Rattle.plate_file.proofs.Sequence.{not_ok}
 
 -- a list of words that is written by two lists of fields has two parts
 split : (xs ys : List (List ℕ)) (ws : List ℕ) → map hex_word (xs ++ ys) ≡ map Some ws → (us : List ℕ) × (vs : List ℕ) × (ws ≡ us ++ vs) × (map hex_word xs ≡ map Some us) × (map hex_word ys ≡ map Some vs)
 split [] ys ws e = ([], ws, refl, refl, e)
-split (x ∷ xs) ys [] e = absurd (let z : ◌≡◌ {A = ℕ} 0 1 = cc in omega arith)
+split (x ∷ xs) ys [] e = cc
 split (x ∷ xs) ys (w ∷ ws) e =
     let here : hex_word x ≡ Some w = cc in
     let more : map hex_word (xs ++ ys) ≡ map Some ws = cc in
@@ -29,9 +28,9 @@ split (x ∷ xs) ys (w ∷ ws) e =
 -- fields that write words are read as these
 pub words_read : (n : ℕ) (fs : List (List ℕ)) (ws : List ℕ) → map hex_word fs ≡ map Some ws → length ws ≤ n → words_in n fs ≡ Ok ws
 words_read n [] [] e h = refl
-words_read n [] (w ∷ ws) e h = absurd (let z : ◌≡◌ {A = ℕ} 0 1 = cc in omega arith)
-words_read n (f ∷ fs) [] e h = absurd (let z : ◌≡◌ {A = ℕ} 0 1 = cc in omega arith)
-words_read zero (f ∷ fs) (w ∷ ws) e h = absurd (let z : ⊥ = omega arith in z)
+words_read n [] (w ∷ ws) e h = cc
+words_read n (f ∷ fs) [] e h = cc
+words_read zero (f ∷ fs) (w ∷ ws) e h = absurd (omega arith)
 words_read (suc n) (f ∷ fs) (w ∷ ws) e h =
     let here : hex_word f ≡ Some w = cc in
     let more : map hex_word fs ≡ map Some ws = cc in
@@ -41,12 +40,12 @@ words_read (suc n) (f ∷ fs) (w ∷ ws) e h =
 -- what is read are words that the fields write
 pub words_written : (n : ℕ) (fs : List (List ℕ)) (ws : List ℕ) → words_in n fs ≡ Ok ws → (map hex_word fs ≡ map Some ws) × (length ws ≤ n)
 words_written n [] ws e = let none : [] ≡ ws = cc in (ap (map Some) none, omega (arith, ap length none))
-words_written zero (f ∷ fs) ws e = absurd (not_ok e)
+words_written zero (f ∷ fs) ws e = cc
 words_written (suc n) (f ∷ fs) ws e = at (hex_word f) refl (words_in n fs) refl e (words_written n fs)
   where
     at : (o : Option ℕ) → hex_word f ≡ o → (r : Result (List ℕ) Problem) → words_in n fs ≡ r → and_then (found (no_word (meant keywords f)) o) (λ word. and_then r (λ words. Ok (word ∷ words))) ≡ Ok ws → ((vs : List ℕ) → words_in n fs ≡ Ok vs → (map hex_word fs ≡ map Some vs) × (length vs ≤ n)) → (map hex_word (f ∷ fs) ≡ map Some ws) × (length ws ≤ suc n)
-    at None is r was e more = absurd (not_ok e)
-    at (Some w) is (Err p) was e more = absurd (not_ok e)
+    at None is r was e more = cc
+    at (Some w) is (Err p) was e more = cc
     at (Some w) is (Ok vs) was e more =
         let whole : w ∷ vs ≡ ws = cc in
         let rest = more vs was in
@@ -70,7 +69,7 @@ module _ (at : List ℕ → ℕ → Progress) (past : List ℕ → List ℕ → 
     -- lines that write as many words as are to come
     pub stream_read : (lines : List (List ℕ)) (old ws : List ℕ) (n : ℕ) → n ≡ length ws → map hex_word (flat_map fields_said lines) ≡ map Some ws → Reads (at old n) lines (at (old ++ ws) 0)
     stream_read [] old [] n long e = λ i. at (sym (append-nil old) i) (long i)
-    stream_read [] old (w ∷ ws) n long e = absurd (let z : ◌≡◌ {A = ℕ} 0 1 = cc in omega arith)
+    stream_read [] old (w ∷ ws) n long e = cc
     stream_read (line ∷ lines) old ws n long e = by (is_idle line) refl (stream_read lines)
       where
         by : (b : Bool) → is_idle line ≡ b → ((old ws : List ℕ) (n : ℕ) → n ≡ length ws → map hex_word (flat_map fields_said lines) ≡ map Some ws → Reads (at old n) lines (at (old ++ ws) 0)) → Reads (at old n) (line ∷ lines) (at (old ++ ws) 0)
@@ -176,7 +175,7 @@ module _ (at : List ℕ → ℕ → Progress) (past : List ℕ → List ℕ → 
             sym ((λ i. stream_step at past (idle i) (is i) old n line)
             ∙ ap (λ r. and_then (and_then {B = Stream} r (λ words. Ok (record { words = old ++ words; left = n - length words }))) (λ stream. Ok (at stream.words stream.left))) was) ∙ e
             in
-            absurd (let z : ◌≡◌ {A = ℕ} 0 1 = cc in omega arith)
+            cc
         by false idle false is (Ok us) was e more =
             let goes : ◌≡◌ {A = Result Progress Problem} (Ok (at (old ++ us) (n - length us))) (Ok r.0) =
             sym ((λ i. stream_step at past (idle i) (is i) old n line)

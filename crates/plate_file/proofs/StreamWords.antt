@@ -15,13 +15,13 @@ longer-full old n fields rest field e z = λ i. longer old (z i) (e i)
 
 module _ (old : List ℕ) (fields rest : List (List ℕ)) (field : List ℕ) (first : fields ≡ field ∷ rest) where
   pub longer-bad : (n : ℕ) (p : Problem) → 0 < n → Err p ≡ word_in field → longer old n fields ≡ Err p
-  longer-bad zero p h bad = absurd (let z : ⊥ = omega arith in z)
+  longer-bad zero p h bad = absurd (omega arith)
   longer-bad (suc n) p h bad =
       ap (longer old (suc n)) first
       ∙ ap (λ r. and_then (and_then r (λ word. and_then (words_in n rest) (λ words. Ok (word ∷ words)))) (λ words. Ok (record { words = old ++ words; left = suc n - length words }))) (sym bad)
 
   pub longer-more : (n word : ℕ) → 0 < n → Ok word ≡ word_in field → longer old n fields ≡ longer (old ++ word ∷ []) (n - 1) rest
-  longer-more zero word h good = absurd (let z : ⊥ = omega arith in z)
+  longer-more zero word h good = absurd (omega arith)
   longer-more (suc n) word h good =
       ap (longer old (suc n)) first
       ∙ ap (λ r. and_then (and_then r (λ word. and_then (words_in n rest) (λ words. Ok (word ∷ words)))) (λ words. Ok (record { words = old ++ words; left = suc n - length words }))) (sym good)

@@ -16,7 +16,6 @@ use Rattle.plate_file.specs.Streams.{count_in}
 use Rattle.plate_file.specs.File.{Contents, Progress, opening, headed, in_dc, in_ac, first_in, is_idle, begun, after_heading, after_dc, after_ac, contents, with_dc, with_ac, started, line_after, lines_after, file_in, Answered}
 use Rattle.plate_file.specs.Hex.{hex_word}
 use Rattle.plate_file.specs.Writes.{AddsBy, AllAdd, fields_said, heading_of, Writes, Faithful}
-use Rattle.plate_file.proofs.Sequence.{not_ok}
 use Rattle.plate_file.proofs.Runs.{Reads, joined_runs, run_answers, answer_runs, ends_in_ac}
 use Rattle.plate_file.proofs.StreamLines.{stream_read, stream_written, Ends, Leaves}
 
@@ -45,7 +44,7 @@ data HeadNext (h : Heading) (idle : Bool) (word : Option Keyword) (bs : List ℕ
 
 added : (r : Result Heading Problem) (m : Progress) → and_then r (λ h. Ok (headed h)) ≡ Ok m → (next : Heading) × (r ≡ Ok next) × (headed next ≡ m)
 added (Ok next) m e = (next, refl, (cc))
-added (Err p) m e = absurd (not_ok e)
+added (Err p) m e = cc
 
 head_next : (h : Heading) (idle : Bool) (word : Option Keyword) (bs : List ℕ) (m : Progress) → head_step h idle word bs ≡ Ok m → HeadNext h idle word bs m
 head_next h true word bs m e = adds h refl (let same : headed h ≡ m = cc in same)
@@ -53,8 +52,8 @@ head_next h false (Some Rectangle) bs m e = let a = added (with_rectangle h bs) 
 head_next h false (Some Channel) bs m e = let a = added (with_channel h bs) m e in adds a.0 a.1 a.2
 head_next h false (Some Rule) bs m e = let a = added (with_rule h bs) m e in adds a.0 a.1 a.2
 head_next h false (Some Dc) bs m e = begins refl refl e
-head_next h false (Some Ac) bs m e = absurd (not_ok e)
-head_next h false None bs m e = absurd (not_ok e)
+head_next h false (Some Ac) bs m e = cc
+head_next h false None bs m e = cc
 
 -- the lines before the streams, and the line that begins the dc stream
 record Headed (h : Heading) (lines : List (List ℕ)) (said : Contents) : Type 0 where
@@ -71,7 +70,7 @@ record Headed (h : Heading) (lines : List (List ℕ)) (said : Contents) : Type 0
   then : Reads m rest (in_ac said 0)
 
 head_written : (h : Heading) (lines : List (List ℕ)) (said : Contents) → Reads (headed h) lines (in_ac said 0) → Headed h lines said
-head_written h [] said r = absurd (let z : ◌≡◌ {A = ℕ} 0 1 = cc in omega arith)
+head_written h [] said r = cc
 head_written h (line ∷ lines) said r = by (head_next h (is_idle line) (meant keywords (field_in line)) (after_field line) r.0 r.1) (λ next. head_written next lines said)
   where
     by : HeadNext h (is_idle line) (meant keywords (field_in line)) (after_field line) r.0 → ((next : Heading) → Reads (headed next) lines (in_ac said 0) → Headed next lines said) → Headed h (line ∷ lines) said
@@ -109,23 +108,23 @@ past_ac ws line = Err (after_ac (meant keywords (field_in line)))
 -- the line that begins the dc stream, and the one that begins the ac stream
 dc_begins : (h : Heading) (bounds : Option IntegerBounds) (bs : List ℕ) (m : Progress) → begun h bounds bs ≡ Ok m
     → (b : IntegerBounds) × (n : ℕ) × (bounds ≡ Some b) × (count_in bs ≡ Ok n) × (m ≡ in_dc (started h b) n)
-dc_begins h None bs m e = absurd (not_ok e)
+dc_begins h None bs m e = cc
 dc_begins h (Some b) bs m e = at (count_in bs) refl e
   where
     at : (r : Result ℕ Problem) → count_in bs ≡ r → and_then r (λ n. Ok (in_dc (started h b) n)) ≡ Ok m → (c : IntegerBounds) × (n : ℕ) × (Some b ≡ Some c) × (count_in bs ≡ Ok n) × (m ≡ in_dc (started h c) n)
-    at (Err p) is e = absurd (not_ok e)
+    at (Err p) is e = cc
     at (Ok n) is e = (b, n, refl, is, (cc))
 
 ac_begins : (c : Contents) (word : Option Keyword) (bs : List ℕ) (m : Progress) → after_dc c word bs ≡ Ok m → (n : ℕ) × (word ≡ Some Ac) × (count_in bs ≡ Ok n) × (m ≡ in_ac c n)
-ac_begins c (Some Rectangle) bs m e = absurd (not_ok e)
-ac_begins c (Some Channel) bs m e = absurd (not_ok e)
-ac_begins c (Some Rule) bs m e = absurd (not_ok e)
-ac_begins c (Some Dc) bs m e = absurd (not_ok e)
-ac_begins c None bs m e = absurd (not_ok e)
+ac_begins c (Some Rectangle) bs m e = cc
+ac_begins c (Some Channel) bs m e = cc
+ac_begins c (Some Rule) bs m e = cc
+ac_begins c (Some Dc) bs m e = cc
+ac_begins c None bs m e = cc
 ac_begins c (Some Ac) bs m e = at (count_in bs) refl e
   where
     at : (r : Result ℕ Problem) → count_in bs ≡ r → and_then r (λ n. Ok (in_ac c n)) ≡ Ok m → (n : ℕ) × (Some Ac ≡ Some Ac) × (count_in bs ≡ Ok n) × (m ≡ in_ac c n)
-    at (Err p) is e = absurd (not_ok e)
+    at (Err p) is e = cc
     at (Ok n) is e = (n, refl, is, (cc))
 
 -- the lines of the ac stream are the last
@@ -144,7 +143,7 @@ ac_written c n lines said r = by (stream_written (at_ac c) past_ac (λ old n lin
         let left : 0 ≡ n - length e.ws = cc in
         let same : said ≡ with_ac c (c.ac ++ e.ws) = cc in
         record { ws = e.ws; long = omega (arith, e.few); each = e.each; whole = same }
-    by (inr e) = absurd (not_ok e.goes)
+    by (inr e) = cc
 
 -- behind the lines of the dc stream comes the line that begins the ac stream
 record FirstStream (c : Contents) (n : ℕ) (lines : List (List ℕ)) (said : Contents) : Type 0 where
@@ -165,7 +164,7 @@ dc_written : (c : Contents) (n : ℕ) (lines : List (List ℕ)) (said : Contents
 dc_written c n lines said r = by (stream_written (at_dc c) (past_dc c) (λ old n line. refl) lines c.dc n (in_ac said 0) r)
   where
     by : Ends (at_dc c) (past_dc c) (λ old n line. refl) c.dc n lines (in_ac said 0) ⊎ Leaves (at_dc c) (past_dc c) (λ old n line. refl) c.dc n lines (in_ac said 0) → FirstStream c n lines said
-    by (inl e) = absurd (let state = e.state in let z : ◌≡◌ {A = ℕ} 0 1 = cc in omega arith)
+    by (inl e) = let state = e.state in cc
     by (inr e) =
         let begin = ac_begins (with_dc c (c.dc ++ e.ws)) (meant keywords (field_in e.next)) (after_field e.next) e.m e.goes in
         record {
@@ -185,11 +184,11 @@ dc_written c n lines said r = by (stream_written (at_dc c) (past_dc c) (λ old n
 
 -- what a file is read as, it writes
 lines_written : (file : List ℕ) (said : Contents) (lines : List (List ℕ)) → lines_of file ≡ lines → Reads opening lines (in_ac said 0) → Writes file said
-lines_written file said [] is r = absurd (let z : ◌≡◌ {A = ℕ} 0 1 = cc in omega arith)
+lines_written file said [] is r = cc
 lines_written file said (first ∷ lines) is r = by (first_in first) refl r.1
   where
     by : (o : Result (Unit {0}) Problem) → first_in first ≡ o → and_then o (λ _. Ok (headed no_heading)) ≡ Ok r.0 → Writes file said
-    by (Err p) opens e = absurd (not_ok e)
+    by (Err p) opens e = cc
     by (Ok u) opens e =
         let starts : headed no_heading ≡ r.0 = cc in
         let top = head_written no_heading lines said (subst (λ m. Reads m lines (in_ac said 0)) (sym starts) r.2) in
@@ -260,4 +259,4 @@ written_is_read file said w =
 pub faithful : (file : List ℕ) (answer : Result Plate Malformed) → Answered file answer → Faithful file answer
 faithful file (Ok plate) e = (read_is_written file (contents plate) e, λ said w. let read = written_is_read file said w in let same : said ≡ contents plate = cc in same)
 faithful file (Err fault) (inl none) = inl none
-faithful file (Err fault) (inr e) = inr (λ said w. let read = written_is_read file said w in let z : ◌≡◌ {A = ℕ} 0 1 = cc in omega arith)
+faithful file (Err fault) (inr e) = inr (λ said w. let read = written_is_read file said w in cc)
