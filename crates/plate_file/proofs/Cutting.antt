@@ -1,12 +1,10 @@
--- A line is its first field and the others; a file its first line and the others.
-use Rattle.std.proofs.Common.{◌≡◌, ℕ, ◌+◌, ◌-◌, ◌<◌, Bool, true, false, cond, not, ◌&&◌, ◌||◌, eqb, List, [], ◌∷◌, length, take, drop, Some, None, Option, sym, refl, ap, ◌∙◌, one-add, arith, Bor}
+-- A line is its first field and the others.
+use Rattle.std.proofs.Common.{◌≡◌, ℕ, ◌+◌, ◌<◌, Bool, true, false, cond, not, ◌&&◌, ◌||◌, eqb, List, [], ◌∷◌, length, take, drop, sym, refl, ap, ◌∙◌, one-add, arith}
 use Rattle.std.specs.List.{prefix_len}
-use Rattle.std.proofs.lemmas.List.Recursion.{is_count_by}
 use Rattle.plate_file.specs.declared.reader.Run.{Run}
-use Rattle.plate_file.specs.declared.reader.Run.TheVariants.{Blanks, Field, Line}
+use Rattle.plate_file.specs.declared.reader.Run.TheVariants.{Blanks, Field}
 use Rattle.plate_file.specs.Reading.{in_run, front, past, field_in, after_field}
-use Rattle.plate_file.specs.Fields.{goes_on, fields_of, on_first, lines_of}
-use Rattle.plate_file.specs.Lines.{line_ends}
+use Rattle.plate_file.specs.Fields.{goes_on, fields_of, on_first}
 
 -- a byte of the sort stands first
 front-more : (run : Run) (b : ℕ) (bs : List ℕ) → in_run run b ≡ true → front run (b ∷ bs) ≡ b ∷ front run bs
@@ -84,57 +82,3 @@ first_field bs h = fields_step bs ∙ at (field_in bs) h
     at : (field : List ℕ) → 0 < length field → with_field field (after_field bs) ≡ field ∷ fields_of (after_field bs)
     at [] h = absurd (omega arith)
     at (b ∷ field) h = refl
-
--- the lines behind a line's end
-abbrev lines_behind : List ℕ → List (List ℕ)
-lines_behind [] = []
-lines_behind (b ∷ bs) = lines_of bs
-
-first_line_cut : (bs : List ℕ) → lines_of bs ≡ front Line bs ∷ lines_behind (past Line bs)
-first_line_cut [] = refl
-first_line_cut (b ∷ bs) = at (eqb b 10) refl (first_line_cut bs)
-  where
-    at : (t : Bool) → eqb b 10 ≡ t → lines_of bs ≡ front Line bs ∷ lines_behind (past Line bs) → lines_of (b ∷ bs) ≡ front Line (b ∷ bs) ∷ lines_behind (past Line (b ∷ bs))
-    at true e more =
-        ap (λ t. cond t ([] ∷ lines_of bs) (on_first b (lines_of bs))) e
-        ∙ (λ i. sym (front-none Line b bs (ap not e)) i ∷ lines_behind (sym (past-none Line b bs (ap not e)) i))
-    at false e more =
-        ap (λ t. cond t ([] ∷ lines_of bs) (on_first b (lines_of bs))) e ∙ ap (on_first b) more
-        ∙ (λ i. sym (front-more Line b bs (ap not e)) i ∷ lines_behind (sym (past_more Line b bs (ap not e)) i))
-
-pub last_line : (bs rest : List ℕ) → rest ≡ past Line bs → length rest ≡ 0 → lines_of bs ≡ front Line bs ∷ []
-last_line bs rest e h = first_line_cut bs ∙ ap (λ q. front Line bs ∷ lines_behind q) (sym e) ∙ ap (λ ls. front Line bs ∷ ls) (at rest h)
-  where
-    at : (rest : List ℕ) → length rest ≡ 0 → lines_behind rest ≡ []
-    at [] h = refl
-    at (b ∷ rest) h = absurd (omega arith)
-
-pub next_lines : (bs rest : List ℕ) → rest ≡ past Line bs → 0 < length rest → lines_of bs ≡ front Line bs ∷ lines_of (drop 1 rest)
-next_lines bs rest e h = first_line_cut bs ∙ ap (λ q. front Line bs ∷ lines_behind q) (sym e) ∙ ap (λ ls. front Line bs ∷ ls) (at rest h)
-  where
-    at : (rest : List ℕ) → 0 < length rest → lines_behind rest ≡ lines_of (drop 1 rest)
-    at [] h = absurd (omega arith)
-    at (b ∷ rest) h = refl
-
-pub some_line : (bs : List ℕ) → 0 < length (lines_of bs)
-some_line bs = rw (first_line_cut bs) (omega arith)
-
-length-on_first : (b : ℕ) (ls : List (List ℕ)) → 0 < length ls → length (on_first b ls) ≡ length ls
-length-on_first b [] h = absurd (omega arith)
-length-on_first b (l ∷ ls) h = refl
-
--- a file has one line more than line feeds
-pub lines_counted : (bs : List ℕ) → length (lines_of bs) ≡ line_ends bs + 1
-lines_counted bs = omega (arith, some_line bs, is_count_by (λ bs. length (lines_of bs) - 1) (λ byte. eqb byte 10) refl step bs)
-  where
-    at : (b : ℕ) (ls : List (List ℕ)) (t : Bool) → 0 < length ls → length (cond t ([] ∷ ls) (on_first b ls)) - 1 ≡ cond t (1 + (length ls - 1)) (length ls - 1)
-    at b ls true some = omega arith
-    at b ls false some = omega (arith, length-on_first b ls some)
-
-    step : (b : ℕ) (bs : List ℕ) → length (lines_of (b ∷ bs)) - 1 ≡ cond (eqb b 10) (1 + (length (lines_of bs) - 1)) (length (lines_of bs) - 1)
-    step b bs = at b (lines_of bs) (eqb b 10) (some_line bs)
-
--- what is left of a file, with a place for the line that begins there
-abbrev pub bytes_left : Option (Bor (List ℕ)) → ℕ
-bytes_left None = 0
-bytes_left (Some bytes) = length bytes.now + 1

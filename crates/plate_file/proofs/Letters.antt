@@ -1,8 +1,7 @@
 -- One letter more of a name.
-use Rattle.std.proofs.Common.{◌≡◌, ℕ, zero, suc, ◌+◌, ◌-◌, ◌<◌, ◌≤◌, true, false, cond, List, [], ◌∷◌, ◌++◌, length, drop, Some, None, Ok, Option, sym, refl, ap, ◌∙◌, arith}
+use Rattle.std.proofs.Common.{◌≡◌, ℕ, zero, suc, ◌-◌, ◌<◌, ◌≤◌, true, false, cond, List, [], ◌∷◌, ◌++◌, length, drop, Some, None, Ok, Option, sym, refl, ap, ◌∙◌, arith}
 use Rattle.std.specs.Option.{option_map}
 use Rattle.std.proofs.lemmas.List.{append_assoc, append-nil, length-append}
-use Rattle.channel_rules.specs.declared.records.Part.{Part}
 use Rattle.plate_file.specs.Hex.{before}
 use Rattle.plate_file.specs.Quoted.{is_plain, letter_in, letter_size, letters_behind, letters_in, written_in, NameAdded}
 use Rattle.plate_file.specs.Steps.{and_then, found}

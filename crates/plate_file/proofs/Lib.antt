@@ -9,3 +9,4 @@ mod StreamWords
 mod Runs
 mod StreamLines
 mod Written
+mod LineByLine

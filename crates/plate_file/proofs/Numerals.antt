@@ -1,5 +1,5 @@
 -- What digits write: one digit more, and numbers of fewer bits.
-use Rattle.std.proofs.Common.{◌≡◌, ℕ, zero, suc, ◌+◌, ◌-◌, ◌*◌, ◌<◌, ◌≤◌, Bool, true, false, cond, not, ◌&&◌, eqb, leb, List, [], ◌∷◌, length, get_or, take, drop, Ok, Err, fold, Result, sym, refl, ap, ◌∙◌, subst, arith, Decides, MatchBool, ℤ, pos, neg_ℤ}
+use Rattle.std.proofs.Common.{◌≡◌, ℕ, zero, suc, ◌+◌, ◌-◌, ◌*◌, ◌<◌, ◌≤◌, Bool, true, false, cond, not, ◌&&◌, eqb, leb, List, [], ◌∷◌, length, get_or, take, Ok, Err, fold, Result, sym, refl, ap, ◌∙◌, subst, arith, Decides}
 use Rattle.std.specs.List.{prefix_len}
 use Rattle.std.proofs.lemmas.List.Sums.{fold_more, prefix_len_is, prefix_len_passes}
 use Rattle.std.proofs.lemmas.Bool.{and_parts, eqb-true, eq-eqb, ne_eqb, leb-true, leb-false, le-leb, lt-leb}
@@ -7,7 +7,7 @@ use Rattle.plate_file.specs.declared.reader.Run.TheVariants.{Digits}
 use Rattle.plate_file.specs.declared.numbers.NumberFault.{NumberFault}
 use Rattle.plate_file.specs.declared.numbers.NumberFault.TheVariants.{NotANumber, OutOfRange}
 use Rattle.plate_file.specs.Reading.{in_run}
-use Rattle.plate_file.specs.Decimal.{Numeral, Reads, Positive, Negative, Signed, is_numeral, value, number_in, unsigned_in, positive_in, negative_in, signed_in}
+use Rattle.plate_file.specs.Decimal.{Numeral, Reads, is_numeral, value, number_in}
 
 abbrev after : ℕ → List ℕ → ℕ
 after n bs = fold (λ sum byte. sum * 10 + (byte - 48)) n bs

@@ -1,6 +1,5 @@
 -- How a file is cut into lines, and a line into all its fields.
-use Rattle.std.specs.Prelude.{ℕ, Bool, false, cond, List, [], ◌∷◌, Some, None, Option, ◌==◌}
-use Rattle.std.specs.Borrow.{Bor}
+use Rattle.std.specs.Prelude.{ℕ, Bool, false, cond, List, [], ◌∷◌, ◌==◌}
 use Rattle.plate_file.specs.declared.reader.Run.TheVariants.{Blanks, Field}
 use Rattle.plate_file.specs.Reading.{in_run}
 
@@ -13,11 +12,6 @@ on_first b (l ∷ ls) = (b ∷ l) ∷ ls
 abbrev pub lines_of : List ℕ → List (List ℕ)
 lines_of [] = [] ∷ []
 lines_of (b ∷ bs) = cond (b == 10) ([] ∷ lines_of bs) (on_first b (lines_of bs))
-
--- the lines of what is left of a file, if anything is
-abbrev pub lines_left : Option (Bor (List ℕ)) → List (List ℕ)
-lines_left None = []
-lines_left (Some bytes) = lines_of bytes.now
 
 -- a field goes on here
 abbrev pub goes_on : List ℕ → Bool

@@ -3,7 +3,7 @@ use Rattle.std.specs.Prelude.{ℕ, Bool, not, ◌&&◌, ◌||◌, List, length, 
 use Rattle.std.specs.List.{prefix_len}
 use Rattle.plate_file.specs.declared.reader.Reader.{Reader}
 use Rattle.plate_file.specs.declared.reader.Run.{Run}
-use Rattle.plate_file.specs.declared.reader.Run.TheVariants.{Blanks, Field, Letters, Digits, Line}
+use Rattle.plate_file.specs.declared.reader.Run.TheVariants.{Blanks, Field, Letters, Digits}
 
 -- a blank is a space or a tab, and a field ends at a blank or at the line's end; letters end at a quote (byte 34)
 abbrev pub in_run : Run → ℕ → Bool
@@ -11,7 +11,6 @@ in_run Blanks byte = byte == 32 || byte == 9
 in_run Field byte = not (byte == 32) && not (byte == 9) && not (byte == 10)
 in_run Letters byte = not (byte == 34)
 in_run Digits byte = nat_le 48 byte && nat_le byte 57
-in_run Line byte = not (byte == 10)
 
 -- the longest front of one sort
 abbrev pub front : Run → List ℕ → List ℕ

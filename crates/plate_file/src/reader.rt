@@ -14,7 +14,6 @@ pub(crate) enum Run {
     Field,
     Letters,
     Digits,
-    Line,
 }
 
 impl Run {
@@ -26,7 +25,6 @@ impl Run {
             Run::Field => !matches!(byte, b' ' | b'\t' | b'\n'),
             Run::Letters => byte != b'"',
             Run::Digits => byte.is_ascii_digit(),
-            Run::Line => byte != b'\n',
         }
     }
 

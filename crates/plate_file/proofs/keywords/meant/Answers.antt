@@ -1,4 +1,4 @@
-use Rattle.std.proofs.Common.{◌≡◌, find, rules, sym, ap, ◌∙◌}
+use Rattle.std.proofs.Common.{◌≡◌, find, rules, ap, ◌∙◌}
 use Rattle.plate_file.specs.declared.keywords.Entry.{Entry as EntryRecord}
 use Rattle.std.proofs.lemmas.Iterator.{YieldsList-from_slice}
 use Rattle.std.specs.Option.{option_map}

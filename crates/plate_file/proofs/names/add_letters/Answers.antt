@@ -1,6 +1,5 @@
-use Rattle.std.proofs.Common.{vec_items, sym, ap, ◌∙◌, inl, inr, arith, rules}
+use Rattle.std.proofs.Common.{vec_items, sym, ap, ◌∙◌, inr, arith}
 use Rattle.std.proofs.lemmas.List.{nil_from_length}
-use Rattle.std.proofs.lemmas.Result.{err_from_is_err_and}
 use Rattle.std.proofs.lemmas.Bool.{eqb-true, eqb-false}
 use Rattle.plate_file.specs.declared.problem.Problem.TheVariants.{BadName}
 use Rattle.plate_file.specs.Steps.{found}

@@ -1,4 +1,4 @@
-use Rattle.std.proofs.Common.{Ok, sym, ap, ◌∙◌, arith, rules, ltb-false, ltb-true}
+use Rattle.std.proofs.Common.{Ok, sym, ap, ◌∙◌, arith, ltb-false, ltb-true}
 use Rattle.std.proofs.lemmas.List.{take_rest}
 use Rattle.plate_file.proofs.Quotes.{to_close, behind_name, never_closed, runs_on, stands}
 use Rattle.plate_file.proofs.reader.Reader.between_quotes.Goals as goal
