@@ -1,10 +1,12 @@
 -- A file without a fault, read line by line.
 use Rattle.std.proofs.Common.{◌≡◌, ℕ, ◌+◌, Bool, true, false, cond, eqb, List, [], ◌∷◌, ◌++◌, Ok, Err, Result, sym, refl, ap, ◌∙◌, subst}
 use Rattle.std.proofs.lemmas.Bool.{eqb-true}
+use Rattle.plate_file.specs.declared.draft.StreamKind.{StreamKind}
+use Rattle.plate_file.specs.declared.draft.StreamKind.TheVariants.{Dc as DcStream, Ac as AcStream}
 use Rattle.plate_file.specs.declared.problem.Malformed.{Malformed}
 use Rattle.plate_file.specs.declared.problem.Problem.{Problem}
 use Rattle.plate_file.specs.declared.problem.Problem.TheVariants.{TooFewWords}
-use Rattle.plate_file.specs.File.{Contents, Progress, opening, headed, in_dc, in_ac, line_after, finished, on_line, lines_after}
+use Rattle.plate_file.specs.File.{Contents, Progress, opening, headed, in_stream, line_after, finished, on_line, lines_after}
 
 -- each line is well, and together they lead from s to t
 abbrev pub Reads : Progress → List (List ℕ) → Progress → Type 0
@@ -34,12 +36,12 @@ answer_runs n s (line ∷ lines) said e = at (line_after s line) refl e (λ m. a
     at (Err problem) is e more = cc
 
 -- a file ends well only behind a whole ac stream
-pub ends_in_ac : (t : Progress) (said : Contents) → finished t ≡ Ok said → t ≡ in_ac said 0
+pub ends_in_ac : (t : Progress) (said : Contents) → finished t ≡ Ok said → t ≡ in_stream AcStream said 0
 ends_in_ac opening said e = cc
 ends_in_ac (headed h) said e = cc
-ends_in_ac (in_dc c n) said e = cc
-ends_in_ac (in_ac c n) said e = at (eqb n 0) refl e
+ends_in_ac (in_stream DcStream c n) said e = cc
+ends_in_ac (in_stream AcStream c n) said e = at (eqb n 0) refl e
   where
-    at : (b : Bool) → eqb n 0 ≡ b → cond b (Ok c) (Err TooFewWords) ≡ Ok said → in_ac c n ≡ in_ac said 0
-    at true is e = let same : c ≡ said = cc in (λ i. in_ac (same i) (eqb-true n 0 is i))
+    at : (b : Bool) → eqb n 0 ≡ b → cond b (Ok c) (Err TooFewWords) ≡ Ok said → in_stream AcStream c n ≡ in_stream AcStream said 0
+    at true is e = let same : c ≡ said = cc in (λ i. in_stream AcStream (same i) (eqb-true n 0 is i))
     at false is e = cc

@@ -4,6 +4,8 @@ use Rattle.std.specs.List.{flat_map}
 use Rattle.channel_rules.specs.declared.records.IntegerBounds.{IntegerBounds}
 use Rattle.plate_file.specs.declared.keywords.Keyword.{Keyword}
 use Rattle.plate_file.specs.declared.keywords.Keyword.TheVariants.{Rectangle, Channel, Rule, Dc, Ac}
+use Rattle.plate_file.specs.declared.draft.StreamKind.{StreamKind}
+use Rattle.plate_file.specs.declared.draft.StreamKind.TheVariants.{Dc as DcStream, Ac as AcStream}
 use Rattle.plate_file.specs.declared.plate.Plate.{Plate}
 use Rattle.plate_file.specs.declared.problem.Malformed.{Malformed}
 use Rattle.plate_file.specs.declared.problem.Problem.{Problem}
@@ -13,7 +15,7 @@ use Rattle.plate_file.specs.Words.{meant, keywords}
 use Rattle.plate_file.specs.Steps.{and_then}
 use Rattle.plate_file.specs.Headings.{Heading, no_heading, with_rectangle, with_channel, with_rule}
 use Rattle.plate_file.specs.Streams.{count_in}
-use Rattle.plate_file.specs.File.{Contents, Progress, opening, headed, in_dc, in_ac, first_in, is_idle, begun, after_heading, after_dc, after_ac, contents, with_dc, with_ac, started, line_after, lines_after, file_in, Answered}
+use Rattle.plate_file.specs.File.{Contents, Progress, opening, headed, in_stream, with_words, first_in, is_idle, begun, after_heading, after_dc, contents, started, line_after, lines_after, file_in, Answered}
 use Rattle.plate_file.specs.Hex.{hex_word}
 use Rattle.plate_file.specs.Writes.{AddsBy, AllAdd, fields_said, heading_of, Writes, Faithful}
 use Rattle.plate_file.proofs.Runs.{Reads, joined_runs, run_answers, answer_runs, ends_in_ac}
@@ -67,15 +69,15 @@ record Headed (h : Heading) (lines : List (List ℕ)) (said : Contents) : Type 0
   says : is_idle dc_line ≡ false
   begins : meant keywords (field_in dc_line) ≡ Some Dc
   goes : begun next next.rectangle (after_field dc_line) ≡ Ok m
-  then : Reads m rest (in_ac said 0)
+  then : Reads m rest (in_stream AcStream said 0)
 
-head_written : (h : Heading) (lines : List (List ℕ)) (said : Contents) → Reads (headed h) lines (in_ac said 0) → Headed h lines said
+head_written : (h : Heading) (lines : List (List ℕ)) (said : Contents) → Reads (headed h) lines (in_stream AcStream said 0) → Headed h lines said
 head_written h [] said r = cc
 head_written h (line ∷ lines) said r = by (head_next h (is_idle line) (meant keywords (field_in line)) (after_field line) r.0 r.1) (λ next. head_written next lines said)
   where
-    by : HeadNext h (is_idle line) (meant keywords (field_in line)) (after_field line) r.0 → ((next : Heading) → Reads (headed next) lines (in_ac said 0) → Headed next lines said) → Headed h (line ∷ lines) said
+    by : HeadNext h (is_idle line) (meant keywords (field_in line)) (after_field line) r.0 → ((next : Heading) → Reads (headed next) lines (in_stream AcStream said 0) → Headed next lines said) → Headed h (line ∷ lines) said
     by (adds next e leads) more =
-        let rest = more next (subst (λ m. Reads m lines (in_ac said 0)) (sym leads) r.2) in
+        let rest = more next (subst (λ m. Reads m lines (in_stream AcStream said 0)) (sym leads) r.2) in
         record {
           head = line ∷ rest.head;
           dc_line = rest.dc_line;
@@ -92,30 +94,17 @@ head_written h (line ∷ lines) said r = by (head_next h (is_idle line) (meant k
     by (begins says word goes) more =
         record { head = []; dc_line = line; rest = lines; next = h; m = r.0; cut = refl; heads = refl; says = says; begins = word; goes = goes; then = r.2 }
 
--- the two streams of a plate
-abbrev at_dc : Contents → List ℕ → ℕ → Progress
-at_dc c ws n = in_dc (with_dc c ws) n
-
-abbrev at_ac : Contents → List ℕ → ℕ → Progress
-at_ac c ws n = in_ac (with_ac c ws) n
-
-abbrev past_dc : Contents → List ℕ → List ℕ → Result Progress Problem
-past_dc c ws line = after_dc (with_dc c ws) (meant keywords (field_in line)) (after_field line)
-
-abbrev past_ac : List ℕ → List ℕ → Result Progress Problem
-past_ac ws line = Err (after_ac (meant keywords (field_in line)))
-
 -- the line that begins the dc stream, and the one that begins the ac stream
 dc_begins : (h : Heading) (bounds : Option IntegerBounds) (bs : List ℕ) (m : Progress) → begun h bounds bs ≡ Ok m
-    → (b : IntegerBounds) × (n : ℕ) × (bounds ≡ Some b) × (count_in bs ≡ Ok n) × (m ≡ in_dc (started h b) n)
+    → (b : IntegerBounds) × (n : ℕ) × (bounds ≡ Some b) × (count_in bs ≡ Ok n) × (m ≡ in_stream DcStream (started h b) n)
 dc_begins h None bs m e = cc
 dc_begins h (Some b) bs m e = at (count_in bs) refl e
   where
-    at : (r : Result ℕ Problem) → count_in bs ≡ r → and_then r (λ n. Ok (in_dc (started h b) n)) ≡ Ok m → (c : IntegerBounds) × (n : ℕ) × (Some b ≡ Some c) × (count_in bs ≡ Ok n) × (m ≡ in_dc (started h c) n)
+    at : (r : Result ℕ Problem) → count_in bs ≡ r → and_then r (λ n. Ok (in_stream DcStream (started h b) n)) ≡ Ok m → (c : IntegerBounds) × (n : ℕ) × (Some b ≡ Some c) × (count_in bs ≡ Ok n) × (m ≡ in_stream DcStream (started h c) n)
     at (Err p) is e = cc
     at (Ok n) is e = (b, n, refl, is, (cc))
 
-ac_begins : (c : Contents) (word : Option Keyword) (bs : List ℕ) (m : Progress) → after_dc c word bs ≡ Ok m → (n : ℕ) × (word ≡ Some Ac) × (count_in bs ≡ Ok n) × (m ≡ in_ac c n)
+ac_begins : (c : Contents) (word : Option Keyword) (bs : List ℕ) (m : Progress) → after_dc c word bs ≡ Ok m → (n : ℕ) × (word ≡ Some Ac) × (count_in bs ≡ Ok n) × (m ≡ in_stream AcStream c n)
 ac_begins c (Some Rectangle) bs m e = cc
 ac_begins c (Some Channel) bs m e = cc
 ac_begins c (Some Rule) bs m e = cc
@@ -123,7 +112,7 @@ ac_begins c (Some Dc) bs m e = cc
 ac_begins c None bs m e = cc
 ac_begins c (Some Ac) bs m e = at (count_in bs) refl e
   where
-    at : (r : Result ℕ Problem) → count_in bs ≡ r → and_then r (λ n. Ok (in_ac c n)) ≡ Ok m → (n : ℕ) × (Some Ac ≡ Some Ac) × (count_in bs ≡ Ok n) × (m ≡ in_ac c n)
+    at : (r : Result ℕ Problem) → count_in bs ≡ r → and_then r (λ n. Ok (in_stream AcStream c n)) ≡ Ok m → (n : ℕ) × (Some Ac ≡ Some Ac) × (count_in bs ≡ Ok n) × (m ≡ in_stream AcStream c n)
     at (Err p) is e = cc
     at (Ok n) is e = (n, refl, is, (cc))
 
@@ -132,16 +121,16 @@ record LastStream (c : Contents) (n : ℕ) (lines : List (List ℕ)) (said : Con
   ws : List ℕ
   long : n ≡ length ws
   each : map hex_word (flat_map fields_said lines) ≡ map Some ws
-  whole : said ≡ with_ac c (c.ac ++ ws)
+  whole : said ≡ with_words AcStream c (c.ac ++ ws)
 
-ac_written : (c : Contents) (n : ℕ) (lines : List (List ℕ)) (said : Contents) → Reads (in_ac c n) lines (in_ac said 0) → LastStream c n lines said
-ac_written c n lines said r = by (stream_written (at_ac c) past_ac (λ old n line. refl) lines c.ac n (in_ac said 0) r)
+ac_written : (c : Contents) (n : ℕ) (lines : List (List ℕ)) (said : Contents) → Reads (in_stream AcStream c n) lines (in_stream AcStream said 0) → LastStream c n lines said
+ac_written c n lines said r = by (stream_written AcStream c lines c.ac n (in_stream AcStream said 0) r)
   where
-    by : Ends (at_ac c) past_ac (λ old n line. refl) c.ac n lines (in_ac said 0) ⊎ Leaves (at_ac c) past_ac (λ old n line. refl) c.ac n lines (in_ac said 0) → LastStream c n lines said
+    by : Ends AcStream c c.ac n lines (in_stream AcStream said 0) ⊎ Leaves AcStream c c.ac n lines (in_stream AcStream said 0) → LastStream c n lines said
     by (inl e) =
         let state = e.state in
         let left : 0 ≡ n - length e.ws = cc in
-        let same : said ≡ with_ac c (c.ac ++ e.ws) = cc in
+        let same : said ≡ with_words AcStream c (c.ac ++ e.ws) = cc in
         record { ws = e.ws; long = omega (arith, e.few); each = e.each; whole = same }
     by (inr e) = cc
 
@@ -158,15 +147,15 @@ record FirstStream (c : Contents) (n : ℕ) (lines : List (List ℕ)) (said : Co
   says : is_idle ac_line ≡ false
   begins : meant keywords (field_in ac_line) ≡ Some Ac
   count : count_in (after_field ac_line) ≡ Ok more
-  last : LastStream (with_dc c (c.dc ++ ws)) more rest said
+  last : LastStream (with_words DcStream c (c.dc ++ ws)) more rest said
 
-dc_written : (c : Contents) (n : ℕ) (lines : List (List ℕ)) (said : Contents) → Reads (in_dc c n) lines (in_ac said 0) → FirstStream c n lines said
-dc_written c n lines said r = by (stream_written (at_dc c) (past_dc c) (λ old n line. refl) lines c.dc n (in_ac said 0) r)
+dc_written : (c : Contents) (n : ℕ) (lines : List (List ℕ)) (said : Contents) → Reads (in_stream DcStream c n) lines (in_stream AcStream said 0) → FirstStream c n lines said
+dc_written c n lines said r = by (stream_written DcStream c lines c.dc n (in_stream AcStream said 0) r)
   where
-    by : Ends (at_dc c) (past_dc c) (λ old n line. refl) c.dc n lines (in_ac said 0) ⊎ Leaves (at_dc c) (past_dc c) (λ old n line. refl) c.dc n lines (in_ac said 0) → FirstStream c n lines said
+    by : Ends DcStream c c.dc n lines (in_stream AcStream said 0) ⊎ Leaves DcStream c c.dc n lines (in_stream AcStream said 0) → FirstStream c n lines said
     by (inl e) = let state = e.state in cc
     by (inr e) =
-        let begin = ac_begins (with_dc c (c.dc ++ e.ws)) (meant keywords (field_in e.next)) (after_field e.next) e.m e.goes in
+        let begin = ac_begins (with_words DcStream c (c.dc ++ e.ws)) (meant keywords (field_in e.next)) (after_field e.next) e.m e.goes in
         record {
           own = e.own;
           ac_line = e.next;
@@ -179,11 +168,11 @@ dc_written c n lines said r = by (stream_written (at_dc c) (past_dc c) (λ old n
           says = e.says;
           begins = begin.1;
           count = begin.2;
-          last = ac_written (with_dc c (c.dc ++ e.ws)) begin.0 e.rest said (subst (λ m. Reads m e.rest (in_ac said 0)) begin.3 e.then);
+          last = ac_written (with_words DcStream c (c.dc ++ e.ws)) begin.0 e.rest said (subst (λ m. Reads m e.rest (in_stream AcStream said 0)) begin.3 e.then);
         }
 
 -- what a file is read as, it writes
-lines_written : (file : List ℕ) (said : Contents) (lines : List (List ℕ)) → lines_of file ≡ lines → Reads opening lines (in_ac said 0) → Writes file said
+lines_written : (file : List ℕ) (said : Contents) (lines : List (List ℕ)) → lines_of file ≡ lines → Reads opening lines (in_stream AcStream said 0) → Writes file said
 lines_written file said [] is r = cc
 lines_written file said (first ∷ lines) is r = by (first_in first) refl r.1
   where
@@ -191,11 +180,11 @@ lines_written file said (first ∷ lines) is r = by (first_in first) refl r.1
     by (Err p) opens e = cc
     by (Ok u) opens e =
         let starts : headed no_heading ≡ r.0 = cc in
-        let top = head_written no_heading lines said (subst (λ m. Reads m lines (in_ac said 0)) (sym starts) r.2) in
+        let top = head_written no_heading lines said (subst (λ m. Reads m lines (in_stream AcStream said 0)) (sym starts) r.2) in
         let h = top.next in
         let begin = dc_begins h h.rectangle (after_field top.dc_line) top.m top.goes in
         let base = started h begin.0 in
-        let dc = dc_written base begin.1 top.rest said (subst (λ m. Reads m top.rest (in_ac said 0)) begin.4 top.then) in
+        let dc = dc_written base begin.1 top.rest said (subst (λ m. Reads m top.rest (in_stream AcStream said 0)) begin.4 top.then) in
         let ac = dc.last in
         subst (Writes file) (sym ac.whole)
         (record {
@@ -219,41 +208,41 @@ read_is_written file said e =
 
 -- the line that begins the dc stream leads into it, and so does that of the ac stream
 into_dc : (h : Heading) (b : IntegerBounds) (line : List ℕ) (n : ℕ) → h.rectangle ≡ Some b → is_idle line ≡ false → meant keywords (field_in line) ≡ Some Dc → count_in (after_field line) ≡ Ok n
-    → line_after (headed h) line ≡ Ok (in_dc (started h b) n)
+    → line_after (headed h) line ≡ Ok (in_stream DcStream (started h b) n)
 into_dc h b line n bounds says word count =
     (λ i. head_step h (says i) (word i) (after_field line)) ∙ ap (λ o. begun h o (after_field line)) bounds
-    ∙ ap (λ r. and_then r (λ n. Ok (in_dc (started h b) n))) count
+    ∙ ap (λ r. and_then r (λ n. Ok (in_stream DcStream (started h b) n))) count
 
-into_ac : (c : Contents) (line : List ℕ) (n : ℕ) → is_idle line ≡ false → meant keywords (field_in line) ≡ Some Ac → count_in (after_field line) ≡ Ok n → line_after (in_dc c 0) line ≡ Ok (in_ac c n)
-into_ac c line n says word count = (λ i. cond (says i) (Ok (in_dc c 0)) (after_dc c (word i) (after_field line))) ∙ ap (λ r. and_then r (λ n. Ok (in_ac c n))) count
+into_ac : (c : Contents) (line : List ℕ) (n : ℕ) → is_idle line ≡ false → meant keywords (field_in line) ≡ Some Ac → count_in (after_field line) ≡ Ok n → line_after (in_stream DcStream c 0) line ≡ Ok (in_stream AcStream c n)
+into_ac c line n says word count = (λ i. cond (says i) (Ok (in_stream DcStream c 0)) (after_dc c (word i) (after_field line))) ∙ ap (λ r. and_then r (λ n. Ok (in_stream AcStream c n))) count
 
 -- what a file writes, it is read as
 pub written_is_read : (file : List ℕ) (said : Contents) → Writes file said → file_in file ≡ Ok said
 written_is_read file said w =
     let top = heading_of said in
     let base = started top said.rectangle in
-    let half : Contents = with_dc base said.dc in
-    let ac_run : Reads (in_dc half 0) (w.ac_line ∷ w.ac_lines) (in_ac said 0) = (
-      in_ac half (length said.ac),
+    let half : Contents = with_words DcStream base said.dc in
+    let ac_run : Reads (in_stream DcStream half 0) (w.ac_line ∷ w.ac_lines) (in_stream AcStream said 0) = (
+      in_stream AcStream half (length said.ac),
       into_ac half w.ac_line (length said.ac) w.ac.says w.ac.begins w.ac.count,
-      stream_read (at_ac half) past_ac (λ old n line. refl) w.ac_lines [] said.ac (length said.ac) refl w.ac.each,
+      stream_read AcStream half w.ac_lines [] said.ac (length said.ac) refl w.ac.each,
     )
     in
-    let dc_run : Reads (headed top) (w.dc_line ∷ (w.dc_lines ++ w.ac_line ∷ w.ac_lines)) (in_ac said 0) = (
-      in_dc base (length said.dc),
+    let dc_run : Reads (headed top) (w.dc_line ∷ (w.dc_lines ++ w.ac_line ∷ w.ac_lines)) (in_stream AcStream said 0) = (
+      in_stream DcStream base (length said.dc),
       into_dc top said.rectangle w.dc_line (length said.dc) refl w.dc.says w.dc.begins w.dc.count,
-      joined_runs (in_dc base (length said.dc)) (in_dc half 0) (in_ac said 0) w.dc_lines (w.ac_line ∷ w.ac_lines)
-          (stream_read (at_dc base) (past_dc base) (λ old n line. refl) w.dc_lines [] said.dc (length said.dc) refl w.dc.each) ac_run,
+      joined_runs (in_stream DcStream base (length said.dc)) (in_stream DcStream half 0) (in_stream AcStream said 0) w.dc_lines (w.ac_line ∷ w.ac_lines)
+          (stream_read DcStream base w.dc_lines [] said.dc (length said.dc) refl w.dc.each) ac_run,
     )
     in
     let lines = w.first ∷ (w.head ++ w.dc_line ∷ (w.dc_lines ++ w.ac_line ∷ w.ac_lines)) in
-    let run : Reads opening lines (in_ac said 0) = (
+    let run : Reads opening lines (in_stream AcStream said 0) = (
       headed no_heading,
       ap (λ r. and_then r (λ _. Ok (headed no_heading))) w.opens,
-      joined_runs (headed no_heading) (headed top) (in_ac said 0) w.head (w.dc_line ∷ (w.dc_lines ++ w.ac_line ∷ w.ac_lines)) (all_read no_heading top w.head w.heads) dc_run,
+      joined_runs (headed no_heading) (headed top) (in_stream AcStream said 0) w.head (w.dc_line ∷ (w.dc_lines ++ w.ac_line ∷ w.ac_lines)) (all_read no_heading top w.head w.heads) dc_run,
     )
     in
-    ap (lines_after 0 opening) w.cut ∙ run_answers 0 opening (in_ac said 0) lines said run refl
+    ap (lines_after 0 opening) w.cut ∙ run_answers 0 opening (in_stream AcStream said 0) lines said run refl
 
 -- an answer that is right is faithful
 pub faithful : (file : List ℕ) (answer : Result Plate Malformed) → Answered file answer → Faithful file answer

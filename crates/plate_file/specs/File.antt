@@ -8,7 +8,9 @@ use Rattle.plate_file.specs.declared.keywords.Keyword.{Keyword}
 use Rattle.plate_file.specs.declared.keywords.Keyword.TheVariants.{Rectangle, Channel, Rule, Dc, Ac}
 use Rattle.plate_file.specs.declared.plate.Plate.{Plate}
 use Rattle.plate_file.specs.declared.draft.Draft.{Draft}
-use Rattle.plate_file.specs.declared.draft.Draft.TheVariants.{Opening, Heading as InHeading, Dc as InDc, Ac as InAc}
+use Rattle.plate_file.specs.declared.draft.Draft.TheVariants.{Opening, Heading as InHeading, Words as InWords}
+use Rattle.plate_file.specs.declared.draft.StreamKind.{StreamKind}
+use Rattle.plate_file.specs.declared.draft.StreamKind.TheVariants.{Dc as DcStream, Ac as AcStream}
 use Rattle.plate_file.specs.declared.problem.Malformed.{Malformed}
 use Rattle.plate_file.specs.declared.problem.Problem.{Problem}
 use Rattle.plate_file.specs.declared.problem.Problem.TheVariants.{NotAPlate, UnknownWord, MissingRectangle, MissingStream, TooFewWords, TooManyWords, OutOfPlace, OutOfMemory}
@@ -33,13 +35,15 @@ abbrev pub contents : Plate → Contents
 contents p =
     record { text = vec_items p.records.text; channels = vec_items p.records.channels; rules = vec_items p.records.rules; rectangle = p.rectangle; dc = vec_items p.dc; ac = vec_items p.ac }
 
--- the same with other words in the dc stream
-abbrev pub with_dc : Contents → List ℕ → Contents
-with_dc c words = record { text = c.text; channels = c.channels; rules = c.rules; rectangle = c.rectangle; dc = words; ac = c.ac }
+-- the words of a stream
+abbrev pub words_of : StreamKind → Contents → List ℕ
+words_of DcStream c = c.dc
+words_of AcStream c = c.ac
 
--- in the ac stream
-abbrev pub with_ac : Contents → List ℕ → Contents
-with_ac c words = record { text = c.text; channels = c.channels; rules = c.rules; rectangle = c.rectangle; dc = c.dc; ac = words }
+-- the same with other words in a stream
+abbrev pub with_words : StreamKind → Contents → List ℕ → Contents
+with_words DcStream c words = record { text = c.text; channels = c.channels; rules = c.rules; rectangle = c.rectangle; dc = words; ac = c.ac }
+with_words AcStream c words = record { text = c.text; channels = c.channels; rules = c.rules; rectangle = c.rectangle; dc = c.dc; ac = words }
 
 -- what was said before the streams, with a rectangle and no word yet
 abbrev pub started : Heading → IntegerBounds → Contents
@@ -49,15 +53,13 @@ started h bounds = record { text = h.text; channels = h.channels; rules = h.rule
 pub data Progress : Type 0 where
   opening : Progress
   headed : Heading → Progress
-  in_dc : Contents → ℕ → Progress
-  in_ac : Contents → ℕ → Progress
+  in_stream : StreamKind → Contents → ℕ → Progress
 
 -- how far a draft is
 abbrev pub progress : Draft → Progress
 progress Opening = opening
 progress (InHeading h) = headed (heading h)
-progress (InDc p n) = in_dc (contents p) n
-progress (InAc p n) = in_ac (contents p) n
+progress (InWords stream p n) = in_stream stream (contents p) n
 
 -- the first line is `plate 1`
 abbrev pub first_in : List ℕ → Result (Unit {0}) Problem
@@ -70,7 +72,7 @@ is_idle line = slice_index line 0 == 35 || length (field_in line) == 0
 -- behind the word `dc`: the streams begin, if there was a rectangle
 abbrev pub begun : Heading → Option IntegerBounds → List ℕ → Result Progress Problem
 begun h None bs = Err MissingRectangle
-begun h (Some bounds) bs = and_then (count_in bs) (λ count. Ok (in_dc (started h bounds) count))
+begun h (Some bounds) bs = and_then (count_in bs) (λ count. Ok (in_stream DcStream (started h bounds) count))
 
 -- a line before the streams, by its first word
 abbrev pub after_heading : Heading → Option Keyword → List ℕ → Result Progress Problem
@@ -87,7 +89,7 @@ after_dc said (Some Rectangle) bs = Err OutOfPlace
 after_dc said (Some Channel) bs = Err OutOfPlace
 after_dc said (Some Rule) bs = Err OutOfPlace
 after_dc said (Some Dc) bs = Err OutOfPlace
-after_dc said (Some Ac) bs = and_then (count_in bs) (λ count. Ok (in_ac said count))
+after_dc said (Some Ac) bs = and_then (count_in bs) (λ count. Ok (in_stream AcStream said count))
 after_dc said None bs = Err TooManyWords
 
 -- what is wrong with a line behind both streams
@@ -95,21 +97,23 @@ abbrev pub after_ac : Option Keyword → Problem
 after_ac (Some keyword) = OutOfPlace
 after_ac None = TooManyWords
 
--- a line with words of the dc stream
-abbrev pub more_dc : Contents → ℕ → List ℕ → Result Progress Problem
-more_dc said n line = and_then (longer said.dc n (fields_of line)) (λ stream. Ok (in_dc (with_dc said stream.words) stream.left))
+-- a line behind a whole stream, by its first word
+abbrev pub behind : StreamKind → Contents → Option Keyword → List ℕ → Result Progress Problem
+behind DcStream said keyword bs = after_dc said keyword bs
+behind AcStream said keyword bs = Err (after_ac keyword)
 
--- of the ac stream
-abbrev pub more_ac : Contents → ℕ → List ℕ → Result Progress Problem
-more_ac said n line = and_then (longer said.ac n (fields_of line)) (λ stream. Ok (in_ac (with_ac said stream.words) stream.left))
+-- a line with words of a stream
+abbrev pub more_words : StreamKind → Contents → ℕ → List ℕ → Result Progress Problem
+more_words stream said n line =
+    and_then (longer (words_of stream said) n (fields_of line)) (λ longer. Ok (in_stream stream (with_words stream said longer.words) longer.left))
 
 -- how far a file has been read after one line more
 abbrev pub line_after : Progress → List ℕ → Result Progress Problem
 line_after opening line = and_then (first_in line) (λ _. Ok (headed no_heading))
 line_after (headed h) line = cond (is_idle line) (Ok (headed h)) (after_heading h (meant keywords (field_in line)) (after_field line))
-line_after (in_dc said n) line =
-    cond (is_idle line) (Ok (in_dc said n)) (cond (n == 0) (after_dc said (meant keywords (field_in line)) (after_field line)) (more_dc said n line))
-line_after (in_ac said n) line = cond (is_idle line) (Ok (in_ac said n)) (cond (n == 0) (Err (after_ac (meant keywords (field_in line)))) (more_ac said n line))
+line_after (in_stream stream said n) line =
+    cond (is_idle line) (Ok (in_stream stream said n))
+    (cond (n == 0) (behind stream said (meant keywords (field_in line)) (after_field line)) (more_words stream said n line))
 
 -- a draft is as far as the line leads, or the fault is the right one
 abbrev pub Leads : Result Progress Problem → Result Draft Problem → Type 0
@@ -120,8 +124,8 @@ Leads right (Err problem) = Fault right problem
 abbrev pub finished : Progress → Result Contents Problem
 finished opening = Err MissingStream
 finished (headed h) = Err MissingStream
-finished (in_dc said n) = Err (cond (n == 0) MissingStream TooFewWords)
-finished (in_ac said n) = cond (n == 0) (Ok said) (Err TooFewWords)
+finished (in_stream DcStream said n) = Err (cond (n == 0) MissingStream TooFewWords)
+finished (in_stream AcStream said n) = cond (n == 0) (Ok said) (Err TooFewWords)
 
 -- a fault on a line
 abbrev pub on_line : {A : Type 0} → ℕ → Result A Problem → Result A Malformed

@@ -1,10 +1,10 @@
 // What one line more makes of a draft.
 ghost use Rattle.std.specs.Prelude.{◌≡◌, Ok, Err, MatchResult};
 ghost use Rattle.plate_file.specs.Reading.{unread};
-ghost use Rattle.plate_file.specs.File.{contents, progress, headed, in_dc, in_ac, is_idle, begun, line_after, Leads, finished};
+ghost use Rattle.plate_file.specs.File.{contents, progress, headed, in_stream, is_idle, begun, line_after, Leads, finished};
 ghost use Rattle.plate_file.specs.Headings.{heading};
 
-use crate::draft::Draft;
+use crate::draft::{Draft, StreamKind};
 use crate::keywords::{Keyword, keyword_of};
 use crate::plate::{Header, Plate};
 use crate::problem::Problem;
@@ -36,7 +36,7 @@ fn begin(heap: Global, header: Header, reader: Reader<'_>) -> Result<Draft, Prob
         dc: Vec::new(heap),
         ac: Vec::new(heap),
     };
-    Ok(Draft::Dc(plate, count))
+    Ok(Draft::Words(StreamKind::Dc, plate, count))
 }
 
 fn heading_line(heap: Global, header: Header, line: &[u8]) -> Result<Draft, Problem>
@@ -57,41 +57,33 @@ fn heading_line(heap: Global, header: Header, line: &[u8]) -> Result<Draft, Prob
     Ok(Draft::Heading(header))
 }
 
-fn dc_line(mut plate: Plate, to_come: usize, line: &[u8]) -> Result<Draft, Problem>
-    ensures { Leads (line_after (in_dc (contents plate) to_come) line.now) result }
+// A line behind the line that begins a stream.
+fn stream_line(
+    stream: StreamKind,
+    mut plate: Plate,
+    to_come: usize,
+    line: &[u8],
+) -> Result<Draft, Problem>
+    ensures { Leads (line_after (in_stream stream (contents plate) to_come) line.now) result }
 {
     if is_idle(line) {
-        return Ok(Draft::Dc(plate, to_come));
+        return Ok(Draft::Words(stream, plate, to_come));
     }
     let mut reader = Reader { left: line };
     if to_come > 0 {
-        let left = reader.add_words(&mut plate.dc, to_come)?;
-        return Ok(Draft::Dc(plate, left));
+        let left = match stream {
+            StreamKind::Dc => reader.add_words(&mut plate.dc, to_come)?,
+            StreamKind::Ac => reader.add_words(&mut plate.ac, to_come)?,
+        };
+        return Ok(Draft::Words(stream, plate, left));
     }
-    match keyword_of(reader.field()) {
-        Some(Keyword::Ac) => {
+    match (stream, keyword_of(reader.field())) {
+        (StreamKind::Dc, Some(Keyword::Ac)) => {
             let count = reader.count()?;
-            Ok(Draft::Ac(plate, count))
+            Ok(Draft::Words(StreamKind::Ac, plate, count))
         }
-        Some(_) => Err(Problem::OutOfPlace),
-        None => Err(Problem::TooManyWords),
-    }
-}
-
-fn ac_line(mut plate: Plate, to_come: usize, line: &[u8]) -> Result<Draft, Problem>
-    ensures { Leads (line_after (in_ac (contents plate) to_come) line.now) result }
-{
-    if is_idle(line) {
-        return Ok(Draft::Ac(plate, to_come));
-    }
-    let mut reader = Reader { left: line };
-    if to_come > 0 {
-        let left = reader.add_words(&mut plate.ac, to_come)?;
-        return Ok(Draft::Ac(plate, left));
-    }
-    match keyword_of(reader.field()) {
-        Some(_) => Err(Problem::OutOfPlace),
-        None => Err(Problem::TooManyWords),
+        (_, Some(_)) => Err(Problem::OutOfPlace),
+        (_, None) => Err(Problem::TooManyWords),
     }
 }
 
@@ -106,8 +98,7 @@ impl Draft {
                 Ok(Draft::Heading(Header::new(heap)))
             }
             Draft::Heading(header) => heading_line(heap, header, line),
-            Draft::Dc(plate, to_come) => dc_line(plate, to_come, line),
-            Draft::Ac(plate, to_come) => ac_line(plate, to_come, line),
+            Draft::Words(stream, plate, to_come) => stream_line(stream, plate, to_come, line),
         }
     }
 
@@ -116,10 +107,11 @@ impl Draft {
         ensures { MatchResult result (λ plate. finished (progress self) ≡ Ok (contents plate)) (λ problem. finished (progress self) ≡ Err problem) }
     {
         match self {
-            Draft::Opening | Draft::Heading(_) | Draft::Dc(_, 0) => Err(Problem::MissingStream),
-            Draft::Dc(_, _) => Err(Problem::TooFewWords),
-            Draft::Ac(plate, 0) => Ok(plate),
-            Draft::Ac(_, _) => Err(Problem::TooFewWords),
+            Draft::Opening | Draft::Heading(_) | Draft::Words(StreamKind::Dc, _, 0) => Err(
+                Problem::MissingStream,
+            ),
+            Draft::Words(StreamKind::Ac, plate, 0) => Ok(plate),
+            Draft::Words(_, _, _) => Err(Problem::TooFewWords),
         }
     }
 }
