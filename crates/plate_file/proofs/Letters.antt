@@ -31,19 +31,8 @@ pub grown-more : (text bs rest : List ℕ) (b : ℕ) → 0 < length bs → Some 
 grown-more text bs rest b h is follows =
     ap (option_map (λ name. text ++ name)) (first_letter bs h ∙ (λ i. before (sym is i) (letters_in (sym follows i)))) ∙ onto text b (letters_in rest)
 
-pub grown-none : (text bs : List ℕ) → 0 < length bs → None ≡ letter_in bs → grown text bs ≡ None
-grown-none text bs h lacks = ap (option_map (λ name. text ++ name)) (first_letter bs h ∙ ap (λ o. before o (letters_in (drop (letter_size bs) bs))) (sym lacks))
-
 pub grown-all : (text bs : List ℕ) → bs ≡ [] → grown text bs ≡ Some text
 grown-all text bs e = ap (grown text) e ∙ ap Some (append-nil text)
-
--- a name of which a part cannot be read cannot be read
-pub no_name : (text bs : List ℕ) → grown text bs ≡ None → letters_in bs ≡ None
-no_name text bs e = at (letters_in bs) e
-  where
-    at : (o : Option (List ℕ)) → option_map (λ name. text ++ name) o ≡ None → o ≡ None
-    at None e = refl
-    at (Some name) e = cc
 
 -- a text has only grown by letters
 pub grown-ge : (text bs new : List ℕ) → grown text bs ≡ Some new → length text ≤ length new

@@ -16,7 +16,7 @@ pub(crate) enum Keyword {
 
 // A word, and what it stands for.
 #[derive(Clone, Copy)]
-pub(crate) struct Entry<T> {
+struct Entry<T> {
     word: &'static [u8],
     means: T,
 }

@@ -51,9 +51,7 @@ fn add_letters(text: &mut Vec<u8>, written: &[u8]) -> Result<(), Problem>
 {
     let mut left = written;
     while !left.is_empty() {
-        let Some((byte, rest)) = letter(left) else {
-            return Err(Problem::BadName);
-        };
+        let (byte, rest) = letter(left).ok_or(Problem::BadName)?;
         text.push(byte)?;
         left = rest;
     }

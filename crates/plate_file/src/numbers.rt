@@ -44,10 +44,7 @@ pub(crate) fn unsigned(field: &[u8]) -> Result<usize, NumberFault>
     }
     let mut value = 0;
     for byte in field {
-        let Some(longer) = appended(value, *byte - b'0') else {
-            return Err(NumberFault::OutOfRange);
-        };
-        value = longer;
+        value = appended(value, *byte - b'0').ok_or(NumberFault::OutOfRange)?;
     }
     Ok(value)
 }

@@ -7,7 +7,7 @@ ghost use Rattle.plate_file.specs.File.{first_in};
 
 use crate::problem::Problem;
 
-// A sort of bytes that are taken together.
+// A sort of bytes that are taken together. An enum and no closure: the definitions name each sort, and a closure would owe at each call that it tests for it.
 #[derive(Clone, Copy)]
 pub(crate) enum Run {
     Blanks,
@@ -44,14 +44,14 @@ pub(crate) struct Reader<'a> {
 
 impl<'a> Reader<'a> {
     // Takes the first line, which is the same in every file.
-    pub(crate) fn first_line(mut self) -> Result<(), Problem>
+    pub(crate) fn first_line(self) -> Result<(), Problem>
         ensures { result ≡ first_in (unread self.entry) }
     {
-        let Some(rest) = self.left.strip_prefix(b"plate 1") else {
-            return Err(Problem::NotAPlate);
-        };
-        self.left = rest;
-        self.end_line(Problem::NotAPlate)
+        let left = self
+            .left
+            .strip_prefix(b"plate 1")
+            .ok_or(Problem::NotAPlate)?;
+        Reader { left }.end_line(Problem::NotAPlate)
     }
 
     // Takes the bytes at the front that are of one sort.

@@ -15,23 +15,17 @@ use std::alloc::Global;
 fn is_idle(line: &[u8]) -> bool
     ensures { result ≡ is_idle line.now }
 {
-    if let [b'#', ..] = line {
-        return true;
-    }
-    Reader { left: line }.field().is_empty()
+    line.starts_with(b"#") || Reader { left: line }.field().is_empty()
 }
 
 // Behind the word `dc`.
 fn begin(heap: Global, header: Header, reader: Reader<'_>) -> Result<Draft, Problem>
     ensures { Leads (begun (heading header) header.rectangle (unread reader.entry)) result }
 {
-    let Header { records, rectangle } = header;
-    let Some(rectangle) = rectangle else {
-        return Err(Problem::MissingRectangle);
-    };
+    let rectangle = header.rectangle.ok_or(Problem::MissingRectangle)?;
     let count = reader.count()?;
     let plate = Plate {
-        records,
+        records: header.records,
         rectangle,
         dc: Vec::new(heap),
         ac: Vec::new(heap),

@@ -14,11 +14,10 @@ use crate::reader::Reader;
 fn word_of(field: &[u8]) -> Result<u16, Problem>
     ensures { result ≡ word_in field.now }
 {
-    match (hex_word(field), keyword_of(field)) {
-        (Some(word), _) => Ok(word),
-        (None, Some(_)) => Err(Problem::TooFewWords),
-        (None, None) => Err(Problem::BadStreamWord),
-    }
+    hex_word(field).ok_or_else(|| match keyword_of(field) {
+        Some(_) => Problem::TooFewWords,
+        None => Problem::BadStreamWord,
+    })
 }
 
 impl Reader<'_> {

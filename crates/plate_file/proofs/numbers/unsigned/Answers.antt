@@ -1,4 +1,8 @@
-use Rattle.std.proofs.Common.{◌≡◌, ◌+◌, Ok, sym, ap, ◌∙◌, arith}
+use Rattle.std.proofs.Common.{◌≡◌, ℕ, ◌+◌, Some, None, Ok, Err, Option, sym, ap, ◌∙◌, arith}
+use Rattle.std.specs.Option.{SomeIff, ok_or}
+use Rattle.std.proofs.lemmas.Result.{err_from_is_err_and}
+use Rattle.plate_file.specs.declared.numbers.NumberFault.{NumberFault}
+use Rattle.plate_file.specs.declared.numbers.NumberFault.TheVariants.{OutOfRange}
 use Rattle.std.proofs.lemmas.List.{take_all}
 use Rattle.plate_file.specs.Decimal.{value}
 use Rattle.plate_file.proofs.Numerals.{value-more, value-take, digit_at, fitting, too_large, reads_from}
@@ -7,23 +11,25 @@ use Rattle.plate_file.proofs.numbers.unsigned.Goals as goal
 pub overflow_sub-byte : goal.overflow_sub-byte
 overflow_sub-byte c = digit_at c.args.field.now c.loop-byte.byte-index (sym c.if-not-is_numeral.ensures.exact) (omega arith)
 
-pub returns-in_default-clause-exact : goal.returns-in_default-clause-exact
-returns-in_default-clause-exact c =
-    let bs = c.args.field.now in
-    let i = c.loop-byte.byte-index in
-    too_large (λ n. n) _ bs (sym c.if-not-is_numeral.ensures.exact) (omega (arith, c.loop-byte.invariant.0, c.in_default.ensures, value-more bs i (omega arith), value-take bs (i + 1)))
-
-pub returns-in_default-clause-reads : goal.returns-in_default-clause-reads
-returns-in_default-clause-reads c = reads_from (λ n. n) 0xffff_ffff_ffff_ffff c.args.field.now _ (returns-in_default-clause-exact c)
-
-pub loop-byte-preserved : goal.loop-byte-preserved
-loop-byte-preserved c =
-    let told = c.in-Some.ensures in
-    let next = value-more c.args.field.now c.loop-byte.byte-index (omega arith) in
-    (omega (arith, c.loop-byte.invariant.0), omega arith)
-
 pub returns-clause-exact : goal.returns-clause-exact
 returns-clause-exact c =
     let bs = c.args.field.now in
     let all : c.loop-byte.value ≡ value bs = c.loop-byte.invariant.0 ∙ ap value (take_all _ _ c.loop-byte-test.false) in
     ap Ok all ∙ fitting (λ n. n) _ bs (sym c.if-not-is_numeral.ensures.exact) (omega (arith, c.loop-byte.invariant.1))
+
+-- one digit more and it has no 64 bits
+none_longer : (o : Option ℕ) (p : Type 0) (v : ℕ) (fault : NumberFault) → Err fault ≡ ok_or o OutOfRange → SomeIff o p v → (fault ≡ OutOfRange) × ¬ p
+none_longer None p v fault e h = ((let same : fault ≡ OutOfRange = cc in same), h)
+none_longer (Some n) p v fault e h = cc
+
+pub returns-in_err-value-clause-exact : goal.returns-in_err-value-clause-exact
+returns-in_err-value-clause-exact c =
+    let bs = c.args.field.now in
+    let i = c.loop-byte.byte-index in
+    let p = err_from_is_err_and c.from_residual.result c.from_residual.ensures.1 in
+    let none = none_longer _ _ _ _ c.in_err-value.ensures.value c.appended.ensures in
+    rw (p.1, p.2, none.0)
+    (too_large (λ n. n) _ bs (sym c.if-not-is_numeral.ensures.exact) (omega (arith, c.loop-byte.invariant.0, none.1, value-more bs i (omega arith), value-take bs (i + 1))))
+
+pub returns-in_err-value-clause-reads : goal.returns-in_err-value-clause-reads
+returns-in_err-value-clause-reads c = reads_from (λ n. n) 0xffff_ffff_ffff_ffff c.args.field.now _ (returns-in_err-value-clause-exact c)
