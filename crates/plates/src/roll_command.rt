@@ -72,13 +72,7 @@ pub fn roll_command(rt: &HostRuntime, files: Args) -> anyhow::Result<()> {
 fn read_plate(rt: &HostRuntime, roll: &mut Roll, file: &str) -> Result<Plate, NoRoll> {
     let bytes = fs::read(rt, file)?;
     let plate = parse_plate(rt.alloc(), bytes.as_slice())?;
-    classify_channels(
-        roll,
-        plate.text.as_slice(),
-        plate.channels.as_slice(),
-        plate.rules.as_slice(),
-        &plate.rectangle,
-    )?;
+    classify_channels(roll, &plate.chunk())?;
     Ok(plate)
 }
 
@@ -97,8 +91,9 @@ fn print_roll(rt: &HostRuntime, plate: &Plate, roll: &Roll) -> io::Result<()> {
 }
 
 fn print_channels(rt: &HostRuntime, plate: &Plate, roll: &Roll) -> io::Result<()> {
-    for (i, (channel, info)) in plate.channels.iter().zip(roll.channels()).enumerate() {
-        let name = Quoted(name_of(plate.text.as_slice(), channel));
+    let chunk = plate.chunk();
+    for (i, (channel, info)) in chunk.channels.iter().zip(roll.channels()).enumerate() {
+        let name = Quoted(name_of(chunk.text, channel));
         println!(rt;
             "channel {i} {name} {} {} {}x{}",
             info.sample_type, info.scheme, info.width, info.height

@@ -1,6 +1,6 @@
 // What is answered for a plate, in the words of an `.expected` file.
 use plate_file::Plate;
-use roll::{Concerned, Refusal, Roll, classify_channels};
+use roll::{Refusal, Roll, classify_channels};
 use std::alloc::{AllocError, Global};
 
 // The first lines of an `.expected` file.
@@ -24,14 +24,7 @@ impl Answer {
 }
 
 pub fn answer_of(heap: Global, roll: &mut Roll, plate: &Plate) -> Result<Answer, AllocError> {
-    let classified = classify_channels(
-        roll,
-        plate.text.as_slice(),
-        plate.channels.as_slice(),
-        plate.rules.as_slice(),
-        &plate.rectangle,
-    );
-    match classified {
+    match classify_channels(roll, &plate.chunk()) {
         Ok(()) => Ok(Answer::Roll(roll_lines(heap, roll)?)),
         Err(refusal) => Ok(Answer::Refused(refusal_line(heap, &refusal)?)),
     }
@@ -55,7 +48,7 @@ fn roll_lines(heap: Global, roll: &Roll) -> Result<String, AllocError> {
 fn refusal_line(heap: Global, refusal: &Refusal) -> Result<String, AllocError> {
     let number = refusal.number();
     match refusal.concerned() {
-        Concerned::Nothing => format!(in heap; "refused {number}\n"),
-        whom => format!(in heap; "refused {number} {whom}\n"),
+        Some(whom) => format!(in heap; "refused {number} {whom}\n"),
+        None => format!(in heap; "refused {number}\n"),
     }
 }
