@@ -5,3 +5,4 @@ pub mod Picks
 pub mod Triplets
 pub mod Sides
 pub mod PrefixMap
+pub mod Shown

@@ -24,19 +24,13 @@ impl Part {
 }
 
 impl ChannelDescription {
-    pub(crate) fn suffix<'a>(&self, text: &'a [u8]) -> &'a [u8]
+    // The prefix of its name, and the suffix.
+    pub(crate) fn split_name<'a>(&self, text: &'a [u8]) -> (&'a [u8], &'a [u8])
         requires { Inside text.now self.now.name }
-        ensures value { result.now ≡ suffix_in text.now self.now }
+        ensures prefix { result.0.now ≡ prefix_in text.now self.now }
+        ensures suffix { result.1.now ≡ suffix_in text.now self.now }
     {
         let name = self.name.of(text);
-        &name[prefix_len(name)..]
-    }
-
-    pub(crate) fn prefix<'a>(&self, text: &'a [u8]) -> &'a [u8]
-        requires { Inside text.now self.now.name }
-        ensures value { result.now ≡ prefix_in text.now self.now }
-    {
-        let name = self.name.of(text);
-        &name[..prefix_len(name)]
+        name.split_at(prefix_len(name))
     }
 }

@@ -65,7 +65,7 @@ fn apply_rules(
     ensures scheme { result ≡ scheme_in chunk.now.records.text.now chunk.now.records.rules.now channel.now }
     ensures slots { slots.new ≡ stamped chunk.now.records.text.now chunk.now.records.rules.now channel.now index slots.old }
 {
-    let suffix = channel.suffix(chunk.records.text);
+    let (_, suffix) = channel.split_name(chunk.records.text);
     let mut scheme = CompressorScheme::Unknown;
     for rule in chunk.records.rules {
         if rule.matches(chunk.records.text, suffix, channel.sample_type) {
@@ -81,7 +81,8 @@ impl<'a> SoundChunk<'a> {
         requires { met.now.first < length self.now.records.channels.now }
         ensures { result.now ≡ known_bytes self.now.records.text.now self.now.records.channels.now met.now }
     {
-        self.records.channels[met.first].prefix(self.records.text)
+        let (prefix, _) = self.records.channels[met.first].split_name(self.records.text);
+        prefix
     }
 }
 
@@ -111,7 +112,7 @@ pub(crate) fn meet(
     ensures capacity { vec_capacity known.new ≡ vec_capacity known.old }
 {
     let channel = &chunk.records.channels[index];
-    let prefix = channel.prefix(chunk.records.text);
+    let (prefix, _) = channel.split_name(chunk.records.text);
     match place_of(chunk, known.as_slice(), prefix) {
         Some(place) => apply_rules(chunk, channel, index, &mut known[place].slots),
         None => {

@@ -1,8 +1,13 @@
 // Sample types and schemes, shown by the words that plate files use.
+ghost use Rattle.std.specs.Prelude.{Some};
+ghost use Rattle.channel_rules.specs.Shown.{type_word, scheme_word};
+
 use crate::records::{CompressorScheme, SampleType};
 use std::fmt;
 
 impl fmt::Display for SampleType {
+    ghost output = { λ t. Some (type_word t) };
+
     fn fmt<W: fmt::Write>(&self, f: &mut fmt::Formatter<W>) -> fmt::Result {
         f.write_str(match self {
             SampleType::U32 => "u32",
@@ -13,6 +18,8 @@ impl fmt::Display for SampleType {
 }
 
 impl fmt::Display for CompressorScheme {
+    ghost output = { λ scheme. Some (scheme_word scheme) };
+
     fn fmt<W: fmt::Write>(&self, f: &mut fmt::Formatter<W>) -> fmt::Result {
         f.write_str(match self {
             CompressorScheme::Unknown => "unknown",

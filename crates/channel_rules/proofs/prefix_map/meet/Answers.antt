@@ -24,7 +24,7 @@ returns-in-Some-clause-met c =
     let ks = vec_items c.args.known.now in
     let at = c.in-Some.place in
     let own = get_or chs c.args.index no_channel in
-    let here = said text chs (Some at) c.as_slice.ensures.value c.prefix-prefix.ensures.value c.in-Some.ensures in
+    let here = said text chs (Some at) c.as_slice.ensures.value c.split_name.ensures.prefix c.in-Some.ensures in
     let old : c.index_mut.result.now ≡ get_or ks at no_known = get_or_read ks at c.index_mut.result.now here.0 c.index_mut.ensures.value no_known in
     let new : KnownPrefix = record { first = (get_or ks at no_known).first; slots = stamped text rules own c.args.index (get_or ks at no_known).slots } in
     let s : c.apply_rules.new.slots ≡ new.slots =
@@ -44,7 +44,7 @@ returns-in-None-clause-met c =
     let rules = c.args.chunk.now.records.rules.now in
     let ks = vec_items c.args.known.now in
     let own = get_or chs c.args.index no_channel in
-    let nowhere = said text chs None c.as_slice.ensures.value c.prefix-prefix.ensures.value c.in-None.ensures in
+    let nowhere = said text chs None c.as_slice.ensures.value c.split_name.ensures.prefix c.in-None.ensures in
     let new : KnownPrefix = record { first = c.args.index; slots = stamped text rules own c.args.index no_slots } in
     let n : record { first = c.args.index; slots = c.apply_rules-scheme.new.slots } ≡ new =
     ap (λ (x : Slots). record { first = c.args.index; slots = x }) c.apply_rules-scheme.ensures.slots in
