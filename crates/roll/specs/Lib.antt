@@ -1,3 +1,4 @@
 pub mod Refusals
 pub mod Kept
 pub mod Laws
+pub mod Shown

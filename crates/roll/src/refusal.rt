@@ -1,6 +1,7 @@
 // Why a chunk is turned down.
-ghost use Rattle.std.specs.Prelude.{◌≡◌};
+ghost use Rattle.std.specs.Prelude.{◌≡◌, Some};
 ghost use Rattle.roll.specs.Refusals.{number, concerned};
+ghost use Rattle.roll.specs.Shown.{concerned_text, reason_text, refusal_text};
 
 use std::fmt;
 
@@ -51,7 +52,9 @@ impl Refusal {
         }
     }
 
-    fn reason(&self) -> &'static str {
+    fn reason(&self) -> &'static str
+        ensures { result.now ≡ reason_text self.now }
+    {
         match self {
             Refusal::TooMany => "there are more than 64 channels or more than 64 rules",
             Refusal::ChunkTooLarge => "a side of the chunk is above 8192",
@@ -66,6 +69,8 @@ impl Refusal {
 }
 
 impl fmt::Display for Concerned {
+    ghost output = { λ whom. Some (concerned_text whom) };
+
     fn fmt<W: fmt::Write>(&self, f: &mut fmt::Formatter<W>) -> fmt::Result {
         match self {
             Concerned::Channel(i) => write!(f, "channel {i}"),
@@ -75,6 +80,8 @@ impl fmt::Display for Concerned {
 }
 
 impl fmt::Display for Refusal {
+    ghost output = { λ refusal. Some (refusal_text refusal) };
+
     fn fmt<W: fmt::Write>(&self, f: &mut fmt::Formatter<W>) -> fmt::Result {
         let number = self.number();
         let why = self.reason();
