@@ -66,7 +66,7 @@ abbrev pub scheme_next : List ℕ → Result CompressorScheme Problem
 scheme_next bs = present (λ field. found UnknownScheme (meant schemes field)) (field_in bs)
 
 -- a slot is a number, or `-` for none
-abbrev slot_in : List ℕ → Result (Option ℕ) Problem
+abbrev pub slot_in : List ℕ → Result (Option ℕ) Problem
 slot_in field = cond (bytes_eq field (codes "-")) (Ok None) (and_then (numbered (unsigned_in field)) (λ slot. Ok (Some slot)))
 
 -- the next field is a slot

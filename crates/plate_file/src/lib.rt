@@ -2,6 +2,7 @@
 #![tactic(auto)]
 
 mod draft;
+mod field;
 mod header;
 mod hex;
 mod keywords;

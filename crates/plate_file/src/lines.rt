@@ -1,64 +1,23 @@
 // The fields of a rectangle, a channel and a rule.
-ghost use Rattle.std.specs.Prelude.{◌≡◌, IfOk, MatchResult, Some, Ok};
-ghost use Rattle.plate_file.specs.Decimal.{Unsigned, Signed};
+ghost use Rattle.std.specs.Prelude.{◌≡◌, IfOk, MatchResult};
 ghost use Rattle.plate_file.specs.Headings.{BehindName, named_in};
-ghost use Rattle.plate_file.specs.Steps.{Fault};
-ghost use Rattle.plate_file.specs.Lines.{RectangleIn, ChannelIn, RuleIn, SlotIn, FlagIn, number_next, signed_next, type_next, scheme_next, slot_next, flag_next, rectangle_in, channel_in, rule_in};
-ghost use Rattle.plate_file.specs.Words.{TypeWord, SchemeWord};
+ghost use Rattle.plate_file.specs.Steps.{present, Fault};
+ghost use Rattle.plate_file.specs.Lines.{RectangleIn, ChannelIn, RuleIn, FlagIn, flag_next, rectangle_in, channel_in, rule_in};
 ghost use Rattle.plate_file.specs.Reading.{field_in, after_field, unread};
 
-use crate::keywords::{sample_type_of, scheme_of};
-use crate::numbers::{signed, unsigned};
+use crate::field::Field;
 use crate::problem::Problem;
 use crate::reader::Reader;
-use channel_rules::{ChannelDescription, CompressorScheme, IntegerBounds, Part, Rule, SampleType};
+use channel_rules::{ChannelDescription, IntegerBounds, Part, Rule};
 
 impl Reader<'_> {
-    pub(crate) fn number(&mut self) -> Result<usize, Problem>
-        ensures value { IfOk result (λ n. Unsigned (field_in (unread self.old)) (Ok n)) }
+    // The value that the next field writes, which has to be there.
+    pub(crate) fn read<T: Field>(&mut self) -> Result<T, Problem>
+        ensures value { IfOk result (T.writes (field_in (unread self.old))) }
         ensures after { unread self.new ≡ after_field (unread self.old) }
-        ensures exact { result ≡ number_next (unread self.old) }
+        ensures exact { result ≡ present T.value_in (field_in (unread self.old)) }
     {
-        let field = self.required_field()?;
-        Ok(unsigned(field)?)
-    }
-
-    fn signed_number(&mut self) -> Result<i32, Problem>
-        ensures value { IfOk result (λ n. Signed (field_in (unread self.old)) (Ok n)) }
-        ensures after { unread self.new ≡ after_field (unread self.old) }
-        ensures exact { result ≡ signed_next (unread self.old) }
-    {
-        let field = self.required_field()?;
-        Ok(signed(field)?)
-    }
-
-    fn slot(&mut self) -> Result<Option<usize>, Problem>
-        ensures value { IfOk result (SlotIn (field_in (unread self.old))) }
-        ensures after { unread self.new ≡ after_field (unread self.old) }
-        ensures exact { result ≡ slot_next (unread self.old) }
-    {
-        match self.required_field()? {
-            b"-" => Ok(None),
-            field => Ok(Some(unsigned(field)?)),
-        }
-    }
-
-    fn sample_type(&mut self) -> Result<SampleType, Problem>
-        ensures value { IfOk result (λ found. TypeWord (field_in (unread self.old)) (Some found)) }
-        ensures after { unread self.new ≡ after_field (unread self.old) }
-        ensures exact { result ≡ type_next (unread self.old) }
-    {
-        let field = self.required_field()?;
-        sample_type_of(field).ok_or(Problem::UnknownSampleType)
-    }
-
-    fn scheme(&mut self) -> Result<CompressorScheme, Problem>
-        ensures value { IfOk result (λ found. SchemeWord (field_in (unread self.old)) (Some found)) }
-        ensures after { unread self.new ≡ after_field (unread self.old) }
-        ensures exact { result ≡ scheme_next (unread self.old) }
-    {
-        let field = self.required_field()?;
-        scheme_of(field).ok_or(Problem::UnknownScheme)
+        T::from_field(self.required_field()?)
     }
 
     // Whether the line ends with `word`; nothing else may stand there.
@@ -81,10 +40,10 @@ impl Reader<'_> {
         ensures value { IfOk result (RectangleIn (unread self.entry)) }
         ensures exact { result ≡ rectangle_in (unread self.entry) }
     {
-        let left = self.signed_number()?;
-        let top = self.signed_number()?;
-        let width = self.number()?;
-        let height = self.number()?;
+        let left = self.read()?;
+        let top = self.read()?;
+        let width = self.read()?;
+        let height = self.read()?;
         self.end_line(Problem::ExtraField)?;
         Ok(IntegerBounds {
             left,
@@ -100,9 +59,9 @@ impl Reader<'_> {
         ensures value { IfOk result (ChannelIn (unread self.entry)) }
         ensures exact { result ≡ channel_in name (unread self.entry) }
     {
-        let sample_type = self.sample_type()?;
-        let x_sampling = self.number()?;
-        let y_sampling = self.number()?;
+        let sample_type = self.read()?;
+        let x_sampling = self.read()?;
+        let y_sampling = self.read()?;
         let quantize_linearly = self.ends_with(b"linear")?;
         Ok(ChannelDescription {
             name,
@@ -119,9 +78,9 @@ impl Reader<'_> {
         ensures value { IfOk result (RuleIn (unread self.entry)) }
         ensures exact { result ≡ rule_in suffix (unread self.entry) }
     {
-        let scheme = self.scheme()?;
-        let sample_type = self.sample_type()?;
-        let csc_index = self.slot()?;
+        let scheme = self.read()?;
+        let sample_type = self.read()?;
+        let csc_index = self.read()?;
         let case_insensitive = self.ends_with(b"ignore-case")?;
         Ok(Rule {
             suffix,

@@ -26,7 +26,7 @@ impl Reader<'_> {
         ensures count { IfOk result (λ n. Unsigned (field_in (unread self.entry)) (Ok n)) }
         ensures exact { result ≡ count_in (unread self.entry) }
     {
-        let count = self.number()?;
+        let count = self.read()?;
         self.end_line(Problem::ExtraField)?;
         Ok(count)
     }
