@@ -2,7 +2,6 @@ mod Tables
 pub mod HexPairs
 mod Numerals
 mod Letters
-mod Quotes
 mod Added
 mod Cutting
 mod StreamWords

@@ -1,7 +1,6 @@
 -- A file without a fault, read line by line.
 use Rattle.std.proofs.Common.{◌≡◌, ℕ, ◌+◌, Bool, true, false, cond, eqb, List, [], ◌∷◌, ◌++◌, Ok, Err, Result, sym, refl, ap, ◌∙◌, subst}
 use Rattle.std.proofs.lemmas.Bool.{eqb-true}
-use Rattle.plate_file.specs.declared.draft.StreamKind.{StreamKind}
 use Rattle.plate_file.specs.declared.draft.StreamKind.TheVariants.{Dc as DcStream, Ac as AcStream}
 use Rattle.plate_file.specs.declared.problem.Malformed.{Malformed}
 use Rattle.plate_file.specs.declared.problem.Problem.{Problem}

@@ -4,7 +4,6 @@ use Rattle.std.specs.List.{flat_map}
 use Rattle.channel_rules.specs.declared.records.IntegerBounds.{IntegerBounds}
 use Rattle.plate_file.specs.declared.keywords.Keyword.{Keyword}
 use Rattle.plate_file.specs.declared.keywords.Keyword.TheVariants.{Rectangle, Channel, Rule, Dc, Ac}
-use Rattle.plate_file.specs.declared.draft.StreamKind.{StreamKind}
 use Rattle.plate_file.specs.declared.draft.StreamKind.TheVariants.{Dc as DcStream, Ac as AcStream}
 use Rattle.plate_file.specs.declared.plate.Plate.{Plate}
 use Rattle.plate_file.specs.declared.problem.Malformed.{Malformed}

@@ -1,10 +1,9 @@
 use Rattle.std.proofs.Common.{◌≡◌, drop, Some, IfSome, vec_items, sym, ap, ◌∙◌, subst, arith}
-use Rattle.std.proofs.lemmas.List.{nil_from_length}
-use Rattle.std.proofs.lemmas.Bool.{eqb-true, eqb-false}
+use Rattle.std.proofs.lemmas.Bool.{eqb-false}
 use Rattle.std.specs.Option.{option_map}
 use Rattle.std.specs.Result.{result_ok}
 use Rattle.plate_file.specs.Quoted.{letter_in, letter_size}
-use Rattle.plate_file.proofs.Letters.{grown, grown-more, grown-all}
+use Rattle.plate_file.proofs.Letters.{grown, grown-more}
 use Rattle.plate_file.proofs.names.add_letters.Goals as goal
 
 pub loop-left-preserved : goal.loop-left-preserved
@@ -17,6 +16,3 @@ loop-left-preserved c =
     c.loop-left.invariant
     ∙ grown-more (vec_items c.loop-left.text) bs c.in_ok-byte.rest.now c.in_ok-byte.byte (omega arith) is follows
     ∙ ap (λ text. grown text c.in_ok-byte.rest.now) (sym c.in_ok-push.ensures.items)
-
-pub returns : goal.returns
-returns c = c.loop-left.invariant ∙ grown-all _ c.loop-left.left.now (nil_from_length _ (eqb-true _ 0 (sym c.is_empty.ensures ∙ c.loop-left-test.false)))

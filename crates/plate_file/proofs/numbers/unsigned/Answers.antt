@@ -1,21 +1,10 @@
-use Rattle.std.proofs.Common.{◌≡◌, ℕ, ◌+◌, Some, None, Ok, Err, Option, sym, ap, ◌∙◌, arith}
+use Rattle.std.proofs.Common.{◌≡◌, ℕ, ◌+◌, Some, None, Err, Option, sym, arith}
 use Rattle.std.specs.Option.{SomeIff, ok_or}
 use Rattle.std.proofs.lemmas.Result.{err_from_is_err_and}
 use Rattle.plate_file.specs.declared.numbers.NumberFault.{NumberFault}
 use Rattle.plate_file.specs.declared.numbers.NumberFault.TheVariants.{OutOfRange}
-use Rattle.std.proofs.lemmas.List.{take_all}
-use Rattle.plate_file.specs.Decimal.{value}
-use Rattle.plate_file.proofs.Numerals.{value-more, value-take, digit_at, fitting, too_large, reads_from}
+use Rattle.plate_file.proofs.Numerals.{value-more, value-take, too_large, reads_from}
 use Rattle.plate_file.proofs.numbers.unsigned.Goals as goal
-
-pub overflow_sub-byte : goal.overflow_sub-byte
-overflow_sub-byte c = digit_at c.args.field.now c.loop-byte.byte-index (sym c.if-not-is_numeral.ensures.exact) (omega arith)
-
-pub returns-clause-exact : goal.returns-clause-exact
-returns-clause-exact c =
-    let bs = c.args.field.now in
-    let all : c.loop-byte.value ≡ value bs = c.loop-byte.invariant.0 ∙ ap value (take_all _ _ c.loop-byte-test.false) in
-    ap Ok all ∙ fitting (λ n. n) _ bs (sym c.if-not-is_numeral.ensures.exact) (omega (arith, c.loop-byte.invariant.1))
 
 -- one digit more and it has no 64 bits
 none_longer : (o : Option ℕ) (p : Type 0) (v : ℕ) (fault : NumberFault) → Err fault ≡ ok_or o OutOfRange → SomeIff o p v → (fault ≡ OutOfRange) × ¬ p
