@@ -4,7 +4,7 @@ mod Numerals
 mod Letters
 mod Added
 mod Cutting
-mod StreamWords
+pub mod StreamWords
 mod Runs
 mod StreamLines
 mod Written

@@ -30,11 +30,6 @@ value-more bs i h = fold_more (λ sum byte. sum * 10 + (byte - 48)) 0 bs i 0 h
 digit : (bs : List ℕ) (k : ℕ) → prefix_len (in_run Digits) bs ≡ length bs → k < length bs → in_run Digits (get_or bs k 0) ≡ true
 digit bs k whole h = prefix_len_passes (in_run Digits) bs k 0 (omega arith)
 
-pub digit_at : (bs : List ℕ) (k : ℕ) → is_numeral bs ≡ true → k < length bs → 48 ≤ get_or bs k 0
-digit_at bs k e h =
-    let whole = eqb-true _ _ (and_parts _ _ e).1 in
-    leb-true 48 _ (and_parts _ _ (digit bs k whole h)).0
-
 digits : (bs : List ℕ) → is_numeral bs ≡ true → Numeral bs
 digits bs e =
     let whole = eqb-true _ _ (and_parts _ _ e).1 in (
@@ -75,9 +70,6 @@ reads_from worth most bs r e = subst (Reads worth most bs) (sym e) (number_reads
 module _ {N : Type 0} (worth : ℕ → N) (most : ℕ) where
   abbrev reading : Bool → ℕ → Result N NumberFault
   reading t v = cond t (cond (leb v most) (Ok (worth v)) (Err OutOfRange)) (Err NotANumber)
-
-  pub fitting : (bs : List ℕ) → is_numeral bs ≡ true → value bs ≤ most → Ok (worth (value bs)) ≡ number_in worth most bs
-  fitting bs e h = sym (ap (λ t. reading t (value bs)) e ∙ ap (λ t. cond t (Ok (worth (value bs))) (Err OutOfRange)) (le-leb (value bs) most h))
 
   pub too_large : (bs : List ℕ) → is_numeral bs ≡ true → most < value bs → Err OutOfRange ≡ number_in worth most bs
   too_large bs e h = sym (ap (λ t. reading t (value bs)) e ∙ ap (λ t. cond t (Ok (worth (value bs))) (Err OutOfRange)) (lt-leb (value bs) most h))

@@ -32,6 +32,7 @@ impl Reader<'_> {
     }
 
     // Adds the words of a line to `words`. `to_come` more are due at its start; the answer is how many are at its end.
+    #[tactic(auto, using(crate::proofs::StreamWords::next_words))]
     pub(crate) fn add_words(
         mut self,
         words: &mut Vec<u16>,
