@@ -1,11 +1,11 @@
 -- Which word stands for what. No other word stands for anything.
 use Rattle.std.specs.Prelude.{◌≡◌, ℕ, cond, List, [], ◌∷◌, map, Some, None, codes, Option, ◌≢◌}
+use Rattle.std.specs.Borrow.{Bor}
 use Rattle.std.specs.Str.{bytes_eq}
 use Rattle.channel_rules.specs.declared.records.SampleType.{SampleType}
 use Rattle.channel_rules.specs.declared.records.SampleType.TheVariants.{U32, F16, F32}
 use Rattle.channel_rules.specs.declared.records.CompressorScheme.{CompressorScheme}
 use Rattle.channel_rules.specs.declared.records.CompressorScheme.TheVariants.{Unknown, LossyDct, Rle}
-use Rattle.plate_file.specs.declared.keywords.Entry.{Entry as EntryRecord}
 use Rattle.plate_file.specs.declared.keywords.Keyword.{Keyword}
 use Rattle.plate_file.specs.declared.keywords.Keyword.TheVariants.{Rectangle, Channel, Rule, Dc, Ac}
 
@@ -39,8 +39,8 @@ pub record Entry (A : Type 0) : Type 0 where
   pub means : A
 
 -- the words of a table of the program
-abbrev pub entries : {A : Type 0} → List (EntryRecord A) → List (Entry A)
-entries table = map (λ e. record { word = e.word.now; means = e.means }) table
+abbrev pub entries : {A : Type 0} → List (Bor (List ℕ) × A) → List (Entry A)
+entries table = map (λ e. record { word = e.0.now; means = e.1 }) table
 
 -- what a word stands for by a table
 abbrev pub meant : {A : Type 0} → List (Entry A) → List ℕ → Option A

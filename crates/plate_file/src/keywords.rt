@@ -14,74 +14,35 @@ pub(crate) enum Keyword {
     Ac,
 }
 
-// A word, and what it stands for.
-#[derive(Clone, Copy)]
-struct Entry<T> {
-    word: &'static [u8],
-    means: T,
-}
-
-const KEYWORDS: [Entry<Keyword>; 5] = [
-    Entry {
-        word: b"rectangle",
-        means: Keyword::Rectangle,
-    },
-    Entry {
-        word: b"channel",
-        means: Keyword::Channel,
-    },
-    Entry {
-        word: b"rule",
-        means: Keyword::Rule,
-    },
-    Entry {
-        word: b"dc",
-        means: Keyword::Dc,
-    },
-    Entry {
-        word: b"ac",
-        means: Keyword::Ac,
-    },
+// Words, and what they stand for.
+const KEYWORDS: [(&[u8], Keyword); 5] = [
+    (b"rectangle", Keyword::Rectangle),
+    (b"channel", Keyword::Channel),
+    (b"rule", Keyword::Rule),
+    (b"dc", Keyword::Dc),
+    (b"ac", Keyword::Ac),
 ];
 
-const TYPES: [Entry<SampleType>; 3] = [
-    Entry {
-        word: b"u32",
-        means: SampleType::U32,
-    },
-    Entry {
-        word: b"f16",
-        means: SampleType::F16,
-    },
-    Entry {
-        word: b"f32",
-        means: SampleType::F32,
-    },
+const TYPES: [(&[u8], SampleType); 3] = [
+    (b"u32", SampleType::U32),
+    (b"f16", SampleType::F16),
+    (b"f32", SampleType::F32),
 ];
 
-const SCHEMES: [Entry<CompressorScheme>; 3] = [
-    Entry {
-        word: b"unknown",
-        means: CompressorScheme::Unknown,
-    },
-    Entry {
-        word: b"lossy",
-        means: CompressorScheme::LossyDct,
-    },
-    Entry {
-        word: b"rle",
-        means: CompressorScheme::Rle,
-    },
+const SCHEMES: [(&[u8], CompressorScheme); 3] = [
+    (b"unknown", CompressorScheme::Unknown),
+    (b"lossy", CompressorScheme::LossyDct),
+    (b"rle", CompressorScheme::Rle),
 ];
 
 // What a word stands for by a table.
-fn meant<T: Copy>(table: &[Entry<T>], field: &[u8]) -> Option<T>
+fn meant<T: Copy>(table: &[(&[u8], T)], field: &[u8]) -> Option<T>
     ensures { result ≡ meant (entries table.now) field.now }
 {
     table
         .iter()
-        .find(|entry| field == entry.word)
-        .map(|entry| entry.means)
+        .find(|entry| field == entry.0)
+        .map(|entry| entry.1)
 }
 
 pub(crate) fn keyword_of(field: &[u8]) -> Option<Keyword>
