@@ -41,8 +41,8 @@ fn meant<T: Copy>(table: &[(&[u8], T)], field: &[u8]) -> Option<T>
 {
     table
         .iter()
-        .find(|entry| field == entry.0)
-        .map(|entry| entry.1)
+        .find(|(word, _)| field == *word)
+        .map(|(_, means)| *means)
 }
 
 pub(crate) fn keyword_of(field: &[u8]) -> Option<Keyword>
