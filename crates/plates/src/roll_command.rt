@@ -5,7 +5,7 @@ use plate_file::{Malformed, Plate, Quoted, parse_plate};
 use roll::{Refusal, Roll, classify_channels};
 use std::env::Args;
 use std::{fmt, fs, io};
-use units::{Unit, UnitChannels, unit_at, unit_count};
+use units::{unit_at, unit_count};
 
 // Why a plate gave no roll.
 #[derive(Drop)]
@@ -81,13 +81,7 @@ fn print_roll(rt: &HostRuntime, plate: &Plate, roll: &Roll) -> io::Result<()> {
     for (k, t) in roll.triplets().iter().enumerate() {
         println!(rt; "triplet {k} channels {} {} {}", t.r, t.g, t.b)?;
     }
-    for (k, unit) in (0..unit_count(roll))
-        .filter_map(|k| unit_at(roll, k))
-        .enumerate()
-    {
-        print_unit(rt, k, &unit)?;
-    }
-    Ok(())
+    print_units(rt, roll)
 }
 
 fn print_channels(rt: &HostRuntime, plate: &Plate, roll: &Roll) -> io::Result<()> {
@@ -108,18 +102,19 @@ fn name_of<'a>(text: &'a [u8], channel: &ChannelDescription) -> &'a [u8] {
         .unwrap_or(&[])
 }
 
-fn print_unit(rt: &HostRuntime, k: usize, unit: &Unit) -> io::Result<()> {
-    let width = unit.width;
-    let height = unit.height;
-    let wide = unit.blocks_wide();
-    let high = unit.blocks_high();
-    match unit.channels {
-        UnitChannels::Triplet(t) => println!(rt;
-            "unit {k} triplet {} {} {} size {width}x{height} blocks {wide}x{high}",
-            t.r, t.g, t.b
-        ),
-        UnitChannels::Lone(i) => println!(rt;
-            "unit {k} lone {i} size {width}x{height} blocks {wide}x{high}"
-        ),
+fn print_units(rt: &HostRuntime, roll: &Roll) -> io::Result<()> {
+    for (k, unit) in (0..unit_count(roll))
+        .filter_map(|k| unit_at(roll, k))
+        .enumerate()
+    {
+        println!(rt;
+            "unit {k} {} size {}x{} blocks {}x{}",
+            unit.channels,
+            unit.width,
+            unit.height,
+            unit.blocks_wide(),
+            unit.blocks_high()
+        )?;
     }
+    Ok(())
 }

@@ -1,5 +1,6 @@
 -- The units of a roll, and where the planes of its lossy channels lie.
-use Rattle.std.specs.Prelude.{◌≡◌, ℕ, ◌+◌, ◌*◌, ◌<◌, ◌≤◌, Bool, true, cond, not, ◌&&◌, ◌||◌, List, ◌++◌, map, length, slice_index_or, take, Some, None, sum_by, filter, Option, ◌==◌}
+use Rattle.std.specs.Prelude.{◌≡◌, ℕ, ◌+◌, ◌*◌, ◌<◌, ◌≤◌, Bool, true, cond, not, ◌&&◌, ◌||◌, List, ◌++◌, map, length, slice_index_or, take, Some, None, sum_by, filter, Option, ◌==◌, codes}
+use Rattle.std.specs.Fmt.{decimal}
 use Rattle.std.specs.List.{list_any, range_with_len}
 use Rattle.channel_rules.specs.declared.records.ChannelInfo.{ChannelInfo}
 use Rattle.channel_rules.specs.declared.records.Triplet.{Triplet}
@@ -32,6 +33,11 @@ no_unit = Lone 0
 abbrev pub leading : UnitChannels → ℕ
 leading (OfTriplet t) = t.r
 leading (Lone i) = i
+
+-- its channels in words: the triplet's in slot order, or the lone one
+abbrev pub shown : UnitChannels → List ℕ
+shown (OfTriplet t) = codes "triplet " ++ decimal t.r ++ codes " " ++ decimal t.g ++ codes " " ++ decimal t.b
+shown (Lone i) = codes "lone " ++ decimal i
 
 -- how many samples the plane of a channel has: none where it is not lossy
 abbrev pub plane_area : ChannelInfo → ℕ

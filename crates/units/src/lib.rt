@@ -4,6 +4,7 @@
 mod blocks;
 mod order;
 mod planes;
+mod shown;
 mod unit;
 
 pub use order::{unit_at, unit_count};
