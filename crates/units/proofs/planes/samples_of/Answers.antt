@@ -7,5 +7,8 @@ use Rattle.units.proofs.planes.samples_of.Goals as goal
 
 -- each item is an element of the list, whose sides are bounded
 pub sum-requires-clause-can : goal.sum-requires-clause-can
-sum-requires-clause-can c =
-    (tt, serves_from_places (YieldsList-from_slice c.args.infos.now cc) (λ x q k. search rules) (λ x k l e. let s = c.requires.sides k l in let h = rw (← get_or_read c.args.infos.now k x.now l e no_info) at s in search rules))
+sum-requires-clause-can c = (
+  tt,
+  serves_from_places (YieldsList-from_slice c.args.infos.now cc) (λ x q k. search rules)
+      (λ x k l e. let at_k = c.requires.sides k l in let sides = rw (← get_or_read c.args.infos.now k x.now l e no_info) at at_k in search rules),
+)
