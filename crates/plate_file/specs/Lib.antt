@@ -10,3 +10,4 @@ pub mod Headings
 pub mod Streams
 pub mod File
 pub mod Writes
+pub mod Shown

@@ -1,7 +1,8 @@
 // What can be wrong with a plate file.
-ghost use Rattle.std.specs.Prelude.{◌≡◌};
+ghost use Rattle.std.specs.Prelude.{◌≡◌, Some};
 ghost use Rattle.plate_file.specs.declared.problem.Problem.TheVariants.{OutOfMemory};
 ghost use Rattle.plate_file.specs.Steps.{problem_of};
+ghost use Rattle.plate_file.specs.Shown.{problem_text, malformed_text};
 
 use crate::numbers::NumberFault;
 use std::alloc::{AllocError, AllocFailed};
@@ -29,7 +30,9 @@ pub enum Problem {
 }
 
 impl Problem {
-    fn sentence(self) -> &'static str {
+    fn sentence(self) -> &'static str
+        ensures { result.now ≡ problem_text self }
+    {
         match self {
             Problem::NotAPlate => "the first line is not `plate 1`",
             Problem::UnknownWord => "the line begins with an unknown word",
@@ -54,6 +57,8 @@ impl Problem {
 }
 
 impl fmt::Display for Problem {
+    ghost output = { λ problem. Some (problem_text problem) };
+
     fn fmt<W: fmt::Write>(&self, f: &mut fmt::Formatter<W>) -> fmt::Result {
         f.write_str(self.sentence())
     }
@@ -94,9 +99,9 @@ pub struct Malformed {
 }
 
 impl fmt::Display for Malformed {
+    ghost output = { λ fault. Some (malformed_text fault) };
+
     fn fmt<W: fmt::Write>(&self, f: &mut fmt::Formatter<W>) -> fmt::Result {
-        let line = self.line;
-        let problem = self.problem;
-        write!(f, "line {line}: {problem}")
+        write!(f, "line {}: {}", self.line, self.problem)
     }
 }
