@@ -56,6 +56,7 @@ impl Problem {
     }
 }
 
+// Written out too: the text of a derived one would stand in no contract.
 impl fmt::Display for Problem {
     ghost output = { λ problem. Some (problem_text problem) };
 
@@ -64,6 +65,7 @@ impl fmt::Display for Problem {
     }
 }
 
+// Written out, since contracts name what these give: a derived one has no contract.
 impl From<AllocError> for Problem {
     ghost from_gives = { λ _ r. r ≡ OutOfMemory };
 
