@@ -56,7 +56,7 @@ impl Problem {
     }
 }
 
-// Written out too: the text of a derived one would stand in no contract.
+// Written out and not derived: the text of a derived one stands in no contract.
 impl fmt::Display for Problem {
     ghost output = { λ problem. Some (problem_text problem) };
 
@@ -65,7 +65,7 @@ impl fmt::Display for Problem {
     }
 }
 
-// Written out, since contracts name what these give: a derived one has no contract.
+// Written out too, since contracts name what these give.
 impl From<AllocError> for Problem {
     ghost from_gives = { λ _ r. r ≡ OutOfMemory };
 
