@@ -74,7 +74,7 @@ pub struct ChannelInfo {
 }
 
 // Three channels that were turned from colour into luma and chroma together: those of slots 0, 1 and 2.
-#[derive(Clone, Copy)]
+#[derive(Clone, Copy, PartialEq, Eq)]
 pub struct Triplet {
     pub r: usize,
     pub g: usize,

@@ -1,8 +1,8 @@
-// Sample types and schemes, shown by the words that plate files use.
+// Sample types and schemes, shown by the words that plate files use, and triplets by their channels.
 ghost use Rattle.std.specs.Prelude.{Some};
-ghost use Rattle.channel_rules.specs.Shown.{type_word, scheme_word};
+ghost use Rattle.channel_rules.specs.Shown.{type_word, scheme_word, triplet_text};
 
-use crate::records::{CompressorScheme, SampleType};
+use crate::records::{CompressorScheme, SampleType, Triplet};
 use std::fmt;
 
 impl fmt::Display for SampleType {
@@ -26,5 +26,13 @@ impl fmt::Display for CompressorScheme {
             CompressorScheme::LossyDct => "lossy",
             CompressorScheme::Rle => "rle",
         })
+    }
+}
+
+impl fmt::Display for Triplet {
+    ghost output = { λ triplet. Some (triplet_text triplet) };
+
+    fn fmt<W: fmt::Write>(&self, f: &mut fmt::Formatter<W>) -> fmt::Result {
+        write!(f, "{} {} {}", self.r, self.g, self.b)
     }
 }

@@ -78,8 +78,8 @@ fn read_plate(rt: &HostRuntime, roll: &mut Roll, file: &str) -> Result<Plate, No
 
 fn print_roll(rt: &HostRuntime, plate: &Plate, roll: &Roll) -> io::Result<()> {
     print_channels(rt, plate, roll)?;
-    for (k, t) in roll.triplets().iter().enumerate() {
-        println!(rt; "triplet {k} channels {} {} {}", t.r, t.g, t.b)?;
+    for (k, triplet) in roll.triplets().iter().enumerate() {
+        println!(rt; "triplet {k} channels {triplet}")?;
     }
     print_units(rt, roll)
 }

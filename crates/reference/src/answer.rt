@@ -39,8 +39,8 @@ fn roll_lines(heap: Global, roll: &Roll) -> Result<String, AllocError> {
             info.scheme, info.width, info.height
         )?;
     }
-    for t in roll.triplets() {
-        writeln!(lines, "triplet {} {} {}", t.r, t.g, t.b)?;
+    for triplet in roll.triplets() {
+        writeln!(lines, "triplet {triplet}")?;
     }
     Ok(lines)
 }

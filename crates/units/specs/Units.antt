@@ -8,6 +8,7 @@ use Rattle.units.specs.declared.unit.Unit.{Unit}
 use Rattle.units.specs.declared.unit.UnitChannels.{UnitChannels}
 use Rattle.units.specs.declared.unit.UnitChannels.TheVariants.{Triplet as OfTriplet, Lone}
 use Rattle.channel_rules.specs.Triplets.{is_lossy, no_info}
+use Rattle.channel_rules.specs.Shown.{triplet_text}
 
 -- one of the triplet's slots holds the channel
 abbrev pub holds : ℕ → Triplet → Bool
@@ -36,7 +37,7 @@ leading (Lone i) = i
 
 -- its channels in words: the triplet's in slot order, or the lone one
 abbrev pub shown : UnitChannels → List ℕ
-shown (OfTriplet t) = codes "triplet " ++ decimal t.r ++ codes " " ++ decimal t.g ++ codes " " ++ decimal t.b
+shown (OfTriplet t) = codes "triplet " ++ triplet_text t
 shown (Lone i) = codes "lone " ++ decimal i
 
 -- how many samples the plane of a channel has: none where it is not lossy

@@ -10,7 +10,7 @@ impl fmt::Display for UnitChannels {
 
     fn fmt<W: fmt::Write>(&self, f: &mut fmt::Formatter<W>) -> fmt::Result {
         match self {
-            UnitChannels::Triplet(t) => write!(f, "triplet {} {} {}", t.r, t.g, t.b),
+            UnitChannels::Triplet(triplet) => write!(f, "triplet {triplet}"),
             UnitChannels::Lone(channel) => write!(f, "lone {channel}"),
         }
     }

@@ -3,7 +3,7 @@ ghost use Rattle.std.specs.Prelude.{◌≡◌, ◌≤◌};
 
 use channel_rules::Triplet;
 
-#[derive(Clone, Copy)]
+#[derive(Clone, Copy, PartialEq, Eq)]
 pub enum UnitChannels {
     Triplet(Triplet),
     Lone(usize),
@@ -23,7 +23,7 @@ impl UnitChannels {
     }
 }
 
-#[derive(Clone, Copy)]
+#[derive(Clone, Copy, PartialEq, Eq)]
 pub struct Unit {
     pub channels: UnitChannels,
     // The size of each of its planes.
