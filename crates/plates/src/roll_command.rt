@@ -4,43 +4,19 @@ use channel_rules::ChannelDescription;
 use plate_file::{Malformed, Plate, Quoted, parse_plate};
 use roll::{Refusal, Roll, classify_channels};
 use std::env::Args;
-use std::{fmt, fs, io};
+use std::{fs, io};
+use thiserror::Error;
 use units::{unit_at, unit_count};
 
 // Why a plate gave no roll.
-#[derive(Drop)]
+#[derive(Debug, Drop, Error)]
 enum NoRoll {
-    Unreadable(io::Error),
-    Malformed(Malformed),
-    Refused(Refusal),
-}
-
-impl fmt::Display for NoRoll {
-    fn fmt<W: fmt::Write>(&self, f: &mut fmt::Formatter<W>) -> fmt::Result {
-        match self {
-            NoRoll::Unreadable(e) => write!(f, "unreadable: {e}"),
-            NoRoll::Malformed(fault) => write!(f, "malformed {fault}"),
-            NoRoll::Refused(refusal) => write!(f, "{refusal}"),
-        }
-    }
-}
-
-impl From<io::Error> for NoRoll {
-    fn from(e: io::Error) -> NoRoll {
-        NoRoll::Unreadable(e)
-    }
-}
-
-impl From<Malformed> for NoRoll {
-    fn from(fault: Malformed) -> NoRoll {
-        NoRoll::Malformed(fault)
-    }
-}
-
-impl From<Refusal> for NoRoll {
-    fn from(refusal: Refusal) -> NoRoll {
-        NoRoll::Refused(refusal)
-    }
+    #[error("unreadable: {0}")]
+    Unreadable(#[from] io::Error),
+    #[error("malformed {0}")]
+    Malformed(#[from] Malformed),
+    #[error("{0}")]
+    Refused(#[from] Refusal),
 }
 
 // Prints the roll of each file. A file that cannot be read or is refused does not stop the others.

@@ -6,13 +6,13 @@ ghost use Rattle.roll.specs.Shown.{concerned_text, reason_text, refusal_text};
 use std::fmt;
 
 // The channel or the rule that a refusal is about, by its place in the list.
-#[derive(Clone, Copy)]
+#[derive(Clone, Copy, Debug)]
 pub enum Concerned {
     Channel(usize),
     Rule(usize),
 }
 
-#[derive(Clone, Copy)]
+#[derive(Clone, Copy, Debug)]
 pub enum Refusal {
     TooMany,
     ChunkTooLarge,
