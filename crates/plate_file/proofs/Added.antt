@@ -1,5 +1,5 @@
 -- A channel or a rule that is added lies in the text, and what was there still does.
-use Rattle.std.proofs.Common.{◌≡◌, ℕ, ◌+◌, ◌<◌, Bool, List, [], ◌∷◌, ◌++◌, length, get_or, codes, IfOk, Ok, Err, Option, Result, sym, refl, ap, subst, ⊎_elim, arith}
+use Rattle.std.proofs.Common.{◌≡◌, ℕ, ◌+◌, ◌<◌, Bool, List, [], ◌∷◌, ◌++◌, length, get_or, codes, IfOk, Ok, Err, Option, Result, sym, refl, ap, subst, ⊎_elim, inl, inr, arith}
 use Rattle.std.proofs.lemmas.List.{get_or_append_left, get_or_push, length_push, length-append}
 use Rattle.std.proofs.lemmas.Bool.{cases_lt}
 use Rattle.channel_rules.specs.declared.records.Part.{Part}
@@ -9,7 +9,7 @@ use Rattle.channel_rules.specs.declared.records.SampleType.{SampleType}
 use Rattle.channel_rules.specs.declared.records.CompressorScheme.{CompressorScheme}
 use Rattle.channel_rules.specs.Names.{Inside}
 use Rattle.plate_file.specs.declared.problem.Problem.{Problem}
-use Rattle.plate_file.specs.Steps.{and_then}
+use Rattle.plate_file.specs.Steps.{and_then, Fault}
 use Rattle.plate_file.specs.Quoted.{part_of, after_name}
 use Rattle.plate_file.specs.Headings.{BehindName}
 use Rattle.plate_file.specs.Lines.{channel_in, rule_in, type_next, number_next, flag_next}
@@ -58,3 +58,9 @@ channel_inside bs old new channel b =
 pub rule_inside : (bs old new : List ℕ) (rule : Rule) → BehindName rule_in bs old new rule → Inside new rule.suffix
 rule_inside bs old new rule b =
     inside old b.0 new rule.suffix b.2 (subst (λ r. IfOk r (λ rule. rule.suffix ≡ part_of old b.0)) b.3 (names_rule (part_of old b.0) _ _ _ _))
+
+-- a fault on the way to what a line adds is the line's fault
+pub fault_kept : {A B C : Type 0} (r : Result A Problem) (f : A → Result B Problem) (g : A → B → Result C Problem) (problem : Problem) → Fault (and_then r f) problem → Fault (and_then r (λ a. and_then (f a) (g a))) problem
+fault_kept r f g problem (inl none) = inl none
+fault_kept (Ok a) f g problem (inr is) = inr (ap (λ r. and_then r (g a)) is)
+fault_kept (Err p) f g problem (inr is) = inr (let same : p ≡ problem = cc in ap Err same)
