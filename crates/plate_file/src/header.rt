@@ -46,17 +46,13 @@ impl Header {
             mut channels,
             rules,
         } = self.records;
-        let channel = reader.channel(&mut text)?;
-        channels.push(channel)?;
+        channels.push(reader.channel(&mut text)?)?;
         let records = Records {
             text,
             channels,
             rules,
         };
-        Ok(Header {
-            records,
-            rectangle: self.rectangle,
-        })
+        Ok(Header { records, ..self })
     }
 
     // Behind the word `rule`.
@@ -68,16 +64,12 @@ impl Header {
             channels,
             mut rules,
         } = self.records;
-        let rule = reader.rule(&mut text)?;
-        rules.push(rule)?;
+        rules.push(reader.rule(&mut text)?)?;
         let records = Records {
             text,
             channels,
             rules,
         };
-        Ok(Header {
-            records,
-            rectangle: self.rectangle,
-        })
+        Ok(Header { records, ..self })
     }
 }

@@ -12,7 +12,7 @@ invariant_of-records c =
     let new = vec_items c.channel.new.text in
     let added = c.in_ok-channel.ensures in
     record {
-      named = one_more (λ channel. channel.name) no_channel new _ _ c.in_ok-channel.channel c.in_ok-push.ensures.items (still_inside (λ channel. channel.name) no_channel old added.0 new _ added.2 c.args.self.records.named) (channel_inside c.args.reader.left.now old new c.in_ok-channel.channel added);
+      named = one_more (λ channel. channel.name) no_channel new _ _ c.in_ok-channel.field-0 c.in_ok-push.ensures.items (still_inside (λ channel. channel.name) no_channel old added.0 new _ added.2 c.args.self.records.named) (channel_inside c.args.reader.left.now old new c.in_ok-channel.field-0 added);
       suffixed = still_inside (λ rule. rule.suffix) no_rule old added.0 new _ added.2 c.args.self.records.suffixed;
     }
 

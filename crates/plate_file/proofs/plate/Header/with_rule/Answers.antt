@@ -13,7 +13,7 @@ invariant_of-records c =
     let added = c.in_ok-rule.ensures in
     record {
       named = still_inside (λ channel. channel.name) no_channel old added.0 new _ added.2 c.args.self.records.named;
-      suffixed = one_more (λ rule. rule.suffix) no_rule new _ _ c.in_ok-rule.rule c.in_ok-push.ensures.items (still_inside (λ rule. rule.suffix) no_rule old added.0 new _ added.2 c.args.self.records.suffixed) (rule_inside c.args.reader.left.now old new c.in_ok-rule.rule added);
+      suffixed = one_more (λ rule. rule.suffix) no_rule new _ _ c.in_ok-rule.field-0 c.in_ok-push.ensures.items (still_inside (λ rule. rule.suffix) no_rule old added.0 new _ added.2 c.args.self.records.suffixed) (rule_inside c.args.reader.left.now old new c.in_ok-rule.field-0 added);
     }
 
 pub returns-in_err-rule : goal.returns-in_err-rule
