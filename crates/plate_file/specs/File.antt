@@ -105,7 +105,7 @@ behind AcStream said keyword bs = Err (after_ac keyword)
 -- a line with words of a stream
 abbrev pub more_words : StreamKind → Contents → ℕ → List ℕ → Result Progress Problem
 more_words stream said n line =
-    and_then (longer (words_of stream said) n (fields_of line)) (λ longer. Ok (in_stream stream (with_words stream said longer.words) longer.left))
+    and_then (longer (words_of stream said) n (fields_of line)) (λ now. Ok (in_stream stream (with_words stream said now.words) now.left))
 
 -- how far a file has been read after one line more
 abbrev pub line_after : Progress → List ℕ → Result Progress Problem

@@ -99,7 +99,7 @@ impl Reader<'_> {
         self.channel_named(name)
     }
 
-    // Adds the rule's suffix to `text`. A trait for a channel and a rule would be longer than the two functions.
+    // Adds the rule's suffix to `text`. Beside `channel`, since a trait for both would be longer.
     pub(crate) fn rule(mut self, text: &mut Vec<u8>) -> Result<Rule, Problem>
         ensures { MatchResult result (BehindName rule_in (unread self.entry) text.old.items text.new.items) (Fault (named_in rule_in text.old.items (unread self.entry))) }
     {

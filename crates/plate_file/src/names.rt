@@ -45,7 +45,8 @@ fn letter(bytes: &[u8]) -> Option<(u8, &[u8])>
     }
 }
 
-// Adds the bytes that `written` stands for to `text`. An iterator of letters would be a type of its own for this one loop.
+// Adds the bytes that `written` stands for to `text`. A `while`, since an iterator of letters would
+// be a type of its own for this one loop.
 fn add_letters(text: &mut Vec<u8>, written: &[u8]) -> Result<(), Problem>
     ensures { MatchResult result (λ _. option_map (λ name. text.old.items ++ name) (letters_in written.now) ≡ Some text.new.items) (Fault (found Problem.BadName (letters_in written.now))) }
 {

@@ -7,7 +7,8 @@ ghost use Rattle.plate_file.specs.File.{first_in};
 
 use crate::problem::Problem;
 
-// A sort of bytes that are taken together. An enum and no closure: the definitions name each sort, and a closure would owe at each call that it tests for it.
+// A sort of bytes that are taken together. No closures, since the definitions name each sort, and
+// each call would owe what its closure tests.
 #[derive(Clone, Copy)]
 pub(crate) enum Run {
     Blanks,
