@@ -46,7 +46,7 @@ impl Header {
             mut channels,
             rules,
         } = self.records;
-        channels.push(reader.channel(&mut text)?)?;
+        channels.push(reader.named(&mut text)?)?;
         let records = Records {
             text,
             channels,
@@ -55,7 +55,7 @@ impl Header {
         Ok(Header { records, ..self })
     }
 
-    // Behind the word `rule`.
+    // Behind the word `rule`. Only the list that grows is another, and to choose it would be longer.
     pub(crate) fn with_rule(self, reader: Reader<'_>) -> Result<Header, Problem>
         ensures { Says (with_rule (heading self) (unread reader.entry)) result }
     {
@@ -64,7 +64,7 @@ impl Header {
             channels,
             mut rules,
         } = self.records;
-        rules.push(reader.rule(&mut text)?)?;
+        rules.push(reader.named(&mut text)?)?;
         let records = Records {
             text,
             channels,

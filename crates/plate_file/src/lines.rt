@@ -1,5 +1,7 @@
 // The fields of a rectangle, a channel and a rule.
-ghost use Rattle.std.specs.Prelude.{◌≡◌, IfOk, MatchResult};
+ghost use Rattle.std.specs.Prelude.{◌≡◌, ℕ, List, Result, IfOk, MatchResult};
+ghost use Rattle.channel_rules.specs.declared.records.Part.{Part};
+ghost use Rattle.plate_file.specs.declared.problem.Problem.{Problem};
 ghost use Rattle.plate_file.specs.Headings.{BehindName, named_in};
 ghost use Rattle.plate_file.specs.Steps.{present, Fault};
 ghost use Rattle.plate_file.specs.Lines.{RectangleIn, ChannelIn, RuleIn, FlagIn, flag_next, rectangle_in, channel_in, rule_in};
@@ -53,16 +55,44 @@ impl Reader<'_> {
         })
     }
 
-    // The fields of a channel behind its name.
-    fn channel_named(mut self, name: Part) -> Result<ChannelDescription, Problem>
-        ensures name { IfOk result (λ channel. channel.name ≡ name) }
-        ensures value { IfOk result (ChannelIn (unread self.entry)) }
-        ensures exact { result ≡ channel_in name (unread self.entry) }
+    // Adds the name that stands next to `text`, and reads the record that it names.
+    pub(crate) fn named<T: Record>(mut self, text: &mut Vec<u8>) -> Result<T, Problem>
+        ensures { MatchResult result (BehindName T.record_in (unread self.entry) text.old.items text.new.items) (Fault (named_in T.record_in text.old.items (unread self.entry))) }
     {
-        let sample_type = self.read()?;
-        let x_sampling = self.read()?;
-        let y_sampling = self.read()?;
-        let quantize_linearly = self.ends_with(b"linear")?;
+        let name = self.quoted(text)?;
+        T::behind_name(self, name)
+    }
+}
+
+// What a line says behind a name: a channel, or a rule behind its suffix.
+pub(crate) trait Record: Sized {
+    // The part of the text that is its name.
+    ghost part: { Self → Part };
+
+    // The record that stands behind a name, or the fault.
+    ghost record_in: { Part → List ℕ → Result Self Problem };
+
+    // Whether the fields behind a name write a record.
+    ghost writes: { List ℕ → Self → Type 0 };
+
+    fn behind_name(reader: Reader<'_>, name: Part) -> Result<Self, Problem>
+        ensures name { IfOk result (λ it. part it ≡ name) }
+        ensures value { IfOk result (writes (unread reader.entry)) }
+        ensures exact { result ≡ record_in name (unread reader.entry) };
+}
+
+impl Record for ChannelDescription {
+    ghost part = { λ channel. channel.name };
+
+    ghost record_in = { channel_in };
+
+    ghost writes = { ChannelIn };
+
+    fn behind_name(mut reader: Reader<'_>, name: Part) -> Result<ChannelDescription, Problem> {
+        let sample_type = reader.read()?;
+        let x_sampling = reader.read()?;
+        let y_sampling = reader.read()?;
+        let quantize_linearly = reader.ends_with(b"linear")?;
         Ok(ChannelDescription {
             name,
             sample_type,
@@ -71,17 +101,20 @@ impl Reader<'_> {
             quantize_linearly,
         })
     }
+}
 
-    // The fields of a rule behind its suffix.
-    fn rule_for(mut self, suffix: Part) -> Result<Rule, Problem>
-        ensures suffix { IfOk result (λ rule. rule.suffix ≡ suffix) }
-        ensures value { IfOk result (RuleIn (unread self.entry)) }
-        ensures exact { result ≡ rule_in suffix (unread self.entry) }
-    {
-        let scheme = self.read()?;
-        let sample_type = self.read()?;
-        let csc_index = self.read()?;
-        let case_insensitive = self.ends_with(b"ignore-case")?;
+impl Record for Rule {
+    ghost part = { λ rule. rule.suffix };
+
+    ghost record_in = { rule_in };
+
+    ghost writes = { RuleIn };
+
+    fn behind_name(mut reader: Reader<'_>, suffix: Part) -> Result<Rule, Problem> {
+        let scheme = reader.read()?;
+        let sample_type = reader.read()?;
+        let csc_index = reader.read()?;
+        let case_insensitive = reader.ends_with(b"ignore-case")?;
         Ok(Rule {
             suffix,
             scheme,
@@ -89,21 +122,5 @@ impl Reader<'_> {
             csc_index,
             case_insensitive,
         })
-    }
-
-    // Adds the channel's name to `text`.
-    pub(crate) fn channel(mut self, text: &mut Vec<u8>) -> Result<ChannelDescription, Problem>
-        ensures { MatchResult result (BehindName channel_in (unread self.entry) text.old.items text.new.items) (Fault (named_in channel_in text.old.items (unread self.entry))) }
-    {
-        let name = self.quoted(text)?;
-        self.channel_named(name)
-    }
-
-    // Adds the rule's suffix to `text`. Beside `channel`, since a trait for both would be longer.
-    pub(crate) fn rule(mut self, text: &mut Vec<u8>) -> Result<Rule, Problem>
-        ensures { MatchResult result (BehindName rule_in (unread self.entry) text.old.items text.new.items) (Fault (named_in rule_in text.old.items (unread self.entry))) }
-    {
-        let suffix = self.quoted(text)?;
-        self.rule_for(suffix)
     }
 }
