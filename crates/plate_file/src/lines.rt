@@ -1,5 +1,6 @@
 // The fields of a rectangle, a channel and a rule.
 ghost use Rattle.std.specs.Prelude.{◌≡◌, ℕ, List, Result, IfOk, MatchResult};
+ghost use Rattle.channel_rules.specs.Names.{Inside};
 ghost use Rattle.channel_rules.specs.declared.records.Part.{Part};
 ghost use Rattle.plate_file.specs.declared.problem.Problem.{Problem};
 ghost use Rattle.plate_file.specs.Headings.{BehindName, named_in};
@@ -57,7 +58,8 @@ impl Reader<'_> {
 
     // Adds the name that stands next to `text`, and reads the record that it names.
     pub(crate) fn named<T: Record>(mut self, text: &mut Vec<u8>) -> Result<T, Problem>
-        ensures { MatchResult result (BehindName T.record_in (unread self.entry) text.old.items text.new.items) (Fault (named_in T.record_in text.old.items (unread self.entry))) }
+        ensures inside { IfOk result (λ it. Inside text.new.items (T.part it)) }
+        ensures exact { MatchResult result (BehindName T.record_in (unread self.entry) text.old.items text.new.items) (Fault (named_in T.record_in text.old.items (unread self.entry))) }
     {
         let name = self.quoted(text)?;
         T::behind_name(self, name)
