@@ -1,7 +1,7 @@
 -- A channel or a rule that is added lies in the text, and what was there still does.
-use Rattle.std.proofs.Common.{◌≡◌, ℕ, ◌<◌, List, [], ◌∷◌, ◌++◌, length, get_or, Ok, Err, Result, sym, ap, subst, ⊎_elim, inl, inr, arith}
-use Rattle.std.proofs.lemmas.List.{get_or_append_left, get_or_push, length_push, length-append}
-use Rattle.std.proofs.lemmas.Bool.{cases_lt}
+use Rattle.std.proofs.Common.{◌≡◌, ℕ, ◌<◌, List, [], ◌∷◌, ◌++◌, length, get_or, Ok, Err, Result, ap, inl, inr, arith}
+use Rattle.std.proofs.lemmas.List.{length-append}
+use Rattle.std.proofs.lemmas.Grind.{common_steps}
 use Rattle.channel_rules.specs.declared.records.Part.{Part}
 use Rattle.channel_rules.specs.Names.{Inside}
 use Rattle.plate_file.specs.declared.problem.Problem.{Problem}
@@ -15,14 +15,7 @@ module _ {X : Type 0} (part : X → Part) (d : X) where
   still_inside old name new xs grew all k h = omega (arith, all k h, ap length grew, length-append old name)
 
   pub one_more : (text : List ℕ) (xs ys : List X) (x : X) → ys ≡ xs ++ x ∷ [] → Each text xs → Inside text (part x) → Each text ys
-  one_more text xs ys x e all here = subst (Each text) (sym e) at
-    where
-      at : Each text (xs ++ x ∷ [])
-      at k h =
-          ⊎_elim
-          (λ low. subst (λ x. Inside text (part x)) (sym (get_or_append_left xs (x ∷ []) d k low)) (all k low))
-          (λ high. let last : length xs ≡ k = omega (arith, length_push xs x) in subst (λ x. Inside text (part x)) (sym (get_or_push xs x d k last)) here)
-          (cases_lt k (length xs))
+  one_more text xs ys x e all here k h = grind (arith, common_steps)
 
 -- a fault on the way to what a line adds is the line's fault
 pub fault_kept : {A B C : Type 0} (r : Result A Problem) (f : A → Result B Problem) (g : A → B → Result C Problem) (problem : Problem) → Fault (and_then r f) problem → Fault (and_then r (λ a. and_then (f a) (g a))) problem
