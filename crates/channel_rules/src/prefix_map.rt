@@ -1,4 +1,4 @@
-// The prefixes met so far, in the order of their first appearance, each with the channels that hold its slots. A list and no map: a map would allocate, and lose the order.
+// The prefixes met so far, in the order of their first appearance, each with the channels that hold its slots.
 ghost use Rattle.std.specs.Prelude.{◌≡◌, ℕ, ◌+◌, ◌<◌, ◌≤◌, true, length, slice_index_or, vec_len, vec_capacity};
 ghost use Rattle.channel_rules.specs.Names.{Inside};
 ghost use Rattle.channel_rules.specs.Picks.{FirstAt};
@@ -86,7 +86,7 @@ impl<'a> SoundChunk<'a> {
     }
 }
 
-// Where the prefix stands among the known ones.
+// Where the prefix stands among the known ones. They are a list and no map, since a map would allocate and lose the order.
 fn place_of(chunk: &SoundChunk<'_>, known: &[KnownPrefix], prefix: &[u8]) -> Option<usize>
     requires firsts { (k : ℕ) → k < length known.now → (slice_index_or known.now k no_known).first < length chunk.now.records.channels.now }
     ensures { FirstAt (length known.now) (λ k. known_bytes chunk.now.records.text.now chunk.now.records.channels.now (slice_index_or known.now k no_known) ≡ prefix.now) result }

@@ -16,7 +16,7 @@ pub enum CompressorScheme {
     Rle,
 }
 
-// A part of the text that holds all names and suffixes.
+// A part of the text that holds all names and suffixes. Two numbers and no slice, since a part that lies outside is to be refused.
 #[derive(Clone, Copy)]
 pub struct Part {
     pub start: usize,

@@ -24,6 +24,7 @@ pub enum Refusal {
 }
 
 impl Refusal {
+    // What a user is told; calls answer the enum.
     pub fn number(&self) -> u8
         ensures { result ≡ number self.now }
     {
