@@ -43,6 +43,7 @@ pub(crate) struct Reader<'a> {
     pub(crate) left: &'a [u8],
 }
 
+// A call that leaves a reader behind says itself what is left: no invariant speaks of before and after.
 impl<'a> Reader<'a> {
     // Takes the first line, which is the same in every file.
     pub(crate) fn first_line(self) -> Result<(), Problem>

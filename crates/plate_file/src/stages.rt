@@ -82,7 +82,7 @@ fn stream_line(
 }
 
 impl Draft {
-    // What one line more makes of it.
+    // What one line more makes of it. A match and no closures, since each stage holds other things.
     pub(crate) fn with_line(self, heap: Global, line: &[u8]) -> Result<Draft, Problem>
         ensures { Leads (line_after (progress self) line.now) result }
     {

@@ -40,6 +40,7 @@ impl Reader<'_> {
     ) -> Result<usize, Problem>
         ensures { MatchResult result (λ left. longer words.old.items to_come (fields_of (unread self.entry)) ≡ Ok (record { words = words.new.items; left = left })) (Fault (longer words.old.items to_come (fields_of (unread self.entry)))) }
     {
+        // The draft's own count, and no index: it goes down word by word, and is the answer.
         let mut left = to_come;
         while let Some(field) = self.next_field() {
             if left == 0 {
