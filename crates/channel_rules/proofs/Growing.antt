@@ -8,7 +8,7 @@ use Rattle.std.specs.Str.{bytes_eq}
 use Rattle.std.proofs.lemmas.List.{get_or_default, map_more, map-append, map-set, get_or-map, length-map, length-set, get_or-set_same, get_or-set_other, ext_get_or}
 use Rattle.std.proofs.ByRecursion.{All-get_or, All-from_get_or, All-weaker, All-set, All-push}
 use Rattle.std.proofs.lemmas.Slice.Eq.{bytes_eq-Decides}
-use Rattle.std.proofs.lemmas.Bool.{cases_order, cases_eq}
+use Rattle.std.proofs.lemmas.Bool.{cases_order, cases_eq, false_from_ne_true, or_parts}
 use Rattle.channel_rules.specs.declared.records.ChannelDescription.{ChannelDescription}
 use Rattle.channel_rules.specs.declared.records.Rule.{Rule}
 use Rattle.channel_rules.specs.declared.prefix_map.Slots.{Slots}
@@ -22,11 +22,7 @@ use Rattle.channel_rules.proofs.Pairs.{pairwise_at, pairwise_distinct}
 
 none_any : {X : Type 0} (test : X → Bool) (xs : List X) → list_any test xs ≡ false → All (λ x. test x ≡ false) xs
 none_any test [] e = tt
-none_any test (x ∷ xs) e = at (test x) refl e (none_any test xs)
-  where
-    at : (b : Bool) → test x ≡ b → (b || list_any test xs) ≡ false → (list_any test xs ≡ false → All (λ y. test y ≡ false) xs) → (test x ≡ false) × All (λ y. test y ≡ false) xs
-    at true p q h = absurd (nope true refl q)
-    at false p q h = (p, h q)
+none_any test (x ∷ xs) e = let p = or_parts (test x) (list_any test xs) e in (p.0, none_any test xs p.1)
 
 map_same : {X Y : Type 0} (f g : X → Y) (xs : List X) → All (λ x. f x ≡ g x) xs → map f xs ≡ map g xs
 map_same f g [] a = refl
@@ -39,11 +35,7 @@ last_place-none test (x ∷ xs) a =
     ∙ ap (λ b. option_or None (cond b (Some zero) None)) a.0
 
 differs : (p q : List ℕ) → (p ≡ q → ⊥) → bytes_eq p q ≡ false
-differs p q n = at (bytes_eq p q) refl
-  where
-    at : (b : Bool) → bytes_eq p q ≡ b → b ≡ false
-    at true h = absurd (n ((bytes_eq-Decides p q).0 h))
-    at false h = refl
+differs p q n = false_from_ne_true (bytes_eq p q) (λ h. n ((bytes_eq-Decides p q).0 h))
 
 turned : (p q : List ℕ) → bytes_eq p q ≡ false → bytes_eq q p ≡ false
 turned p q e = differs q p (λ s. nope (bytes_eq p q) ((bytes_eq-Decides p q).1 (sym s)) e)

@@ -3,6 +3,7 @@ use Rattle.std.proofs.Common.{◌≡◌, ℕ, zero, suc, ◌<◌, Bool, true, fa
 use Rattle.std.specs.Option.{option_to_list}
 use Rattle.std.specs.List.{flat_map, AllByRecursion as All}
 use Rattle.std.proofs.ByRecursion.{All-get_or, all_kept_by, kept_by_passes, All-weaker}
+use Rattle.std.proofs.lemmas.Bool.{not-true}
 use Rattle.channel_rules.specs.Picks.{distinct}
 
 abbrev pub Pairwise : {X : Type 0} → (X → X → Type 0) → List X → Type 0
@@ -10,8 +11,8 @@ Pairwise R [] = Unit {0}
 Pairwise R (x ∷ xs) = All (R x) xs × Pairwise R xs
 
 pub pairwise_at : {X : Type 0} (R : X → X → Type 0) (xs : List X) (j k : ℕ) (d : X) → j < k → k < length xs → Pairwise R xs → R (get_or xs j d) (get_or xs k d)
-pairwise_at R [] j k d l h p = absurd (let z : ⊥ = omega arith in z)
-pairwise_at R (x ∷ xs) j zero d l h p = absurd (let z : ⊥ = omega arith in z)
+pairwise_at R [] j k d l h p = absurd (omega arith)
+pairwise_at R (x ∷ xs) j zero d l h p = absurd (omega arith)
 pairwise_at R (x ∷ xs) zero (suc k) d l h p = All-get_or (R x) xs k d (omega arith) p.0
 pairwise_at R (x ∷ xs) (suc j) (suc k) d l h p = pairwise_at R xs j k d (omega arith) (omega arith) p.1
 
@@ -21,15 +22,11 @@ pairwise_kept R test (x ∷ xs) p =
     elim (test x) as (λ b. Pairwise R (cond b (x ∷ filter test xs) (filter test xs)))
     [ true ↦ (all_kept_by test (R x) xs p.0, pairwise_kept R test xs p.1) | false ↦ pairwise_kept R test xs p.1 ]
 
-not_true : (b : Bool) → not b ≡ true → b ≡ false
-not_true true e = sym e
-not_true false e = refl
-
 -- what is kept once is never the same
 pub pairwise_distinct : {X : Type 0} (same : X → X → Bool) (xs : List X) → Pairwise (λ x y. same x y ≡ false) (distinct same xs)
 pairwise_distinct same [] = tt
 pairwise_distinct same (x ∷ xs) = (
-  All-weaker (λ y. not (same x y) ≡ true) (λ y. same x y ≡ false) (λ y e. not_true (same x y) e) _ (kept_by_passes (λ y. not (same x y)) (distinct same xs)),
+  All-weaker (λ y. not (same x y) ≡ true) (λ y. same x y ≡ false) (λ y e. not-true (same x y) e) _ (kept_by_passes (λ y. not (same x y)) (distinct same xs)),
   pairwise_kept (λ y z. same y z ≡ false) (λ y. not (same x y)) (distinct same xs) (pairwise_distinct same xs),
 )
 

@@ -7,7 +7,7 @@ use Rattle.std.proofs.lemmas.List.Elements.{filter-append}
 use Rattle.channel_rules.specs.Picks.{last_place, distinct, LastAt}
 
 pub nope : (b : Bool) → b ≡ true → b ≡ false → ⊥
-nope b e f = let z : ◌≡◌ {A = ℕ} 0 1 = cc in omega arith
+nope b e f = cc
 
 module _ {X : Type 0} (test : X → Bool) where
   pub last_place-push : (xs : List X) (x : X) → last_place test (xs ++ x ∷ []) ≡ cond (test x) (Some (length xs)) (last_place test xs)
@@ -24,15 +24,15 @@ module _ {X : Type 0} (test : X → Bool) where
 
   -- what `last_place` finds is the last that passes
   pub last_place-is : (xs : List X) (d : X) → LastAt (length xs) (λ k. test (get_or xs k d) ≡ true) (last_place test xs)
-  last_place-is [] d = λ i h e. absurd (let z : ⊥ = omega arith in z)
+  last_place-is [] d = λ i h e. absurd (omega arith)
   last_place-is (x ∷ xs) d = at_cons (last_place test xs) (test x) refl (last_place-is xs d)
     where
       after : (k : ℕ) → ((i : ℕ) → k < i → i < length xs → test (get_or xs i d) ≡ true → ⊥) → (i : ℕ) → suc k < i → i < length (x ∷ xs) → test (get_or (x ∷ xs) i d) ≡ true → ⊥
-      after k h zero l u = absurd (let z : ⊥ = omega arith in z)
+      after k h zero l u = absurd (omega arith)
       after k h (suc i) l u = h i (omega arith) (omega arith)
 
       none : ((i : ℕ) → i < length xs → test (get_or xs i d) ≡ true → ⊥) → (i : ℕ) → 0 < i → i < length (x ∷ xs) → test (get_or (x ∷ xs) i d) ≡ true → ⊥
-      none h zero l u = absurd (let z : ⊥ = omega arith in z)
+      none h zero l u = absurd (omega arith)
       none h (suc i) l u = h i (omega arith)
 
       never : test x ≡ false → ((i : ℕ) → i < length xs → test (get_or xs i d) ≡ true → ⊥) → (i : ℕ) → i < length (x ∷ xs) → test (get_or (x ∷ xs) i d) ≡ true → ⊥

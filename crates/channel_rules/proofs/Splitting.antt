@@ -7,7 +7,7 @@ tail_splits : (b : ℕ) (bs : List ℕ) (n m : ℕ) → (n ≡ suc m) ⊎ ((n �
 tail_splits b bs n m e h = record {
   within = elim e [ inl p ↦ omega (arith, h.within) | inr p ↦ omega arith ];
   plain = λ k l u d. h.plain (suc k) (elim e [ inl p ↦ omega arith | inr p ↦ omega arith ]) (omega arith) d;
-  dotted = λ k s. elim e [ inl p ↦ h.dotted (suc k) (omega arith) | inr p ↦ absurd (let z : ⊥ = omega arith in z) ];
+  dotted = λ k s. elim e [ inl p ↦ h.dotted (suc k) (omega arith) | inr p ↦ absurd (omega arith) ];
 }
 
 pub splits_cut : (name : List ℕ) (n : ℕ) → Splits name n → n ≡ cut name

@@ -16,5 +16,5 @@ pub use records::{
     ChannelDescription, ChannelInfo, Chunk, CompressorScheme, IntegerBounds, Part, Rule,
     SampleType, Triplet,
 };
-pub use slot::{NoSuchSlot, Slot};
+pub use slot::{NotASlot, Slot};
 pub use sound::SoundChunk;

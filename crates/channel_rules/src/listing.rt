@@ -1,5 +1,5 @@
 // The two lists that a roll holds: its channels and its triplets.
-ghost use Rattle.std.specs.Prelude.{◌≡◌, ℕ, ◌+◌, ◌<◌, ◌≤◌, [], map, length, vec_len, vec_capacity, slice_index_or};
+ghost use Rattle.std.specs.Prelude.{◌≡◌, ℕ, ◌<◌, ◌≤◌, [], map, length, vec_len, vec_capacity, slice_index_or};
 ghost use Rattle.channel_rules.specs.Triplets.{same_steps, is_lossy};
 ghost use Rattle.channel_rules.specs.Sides.{side, info_in};
 ghost use Rattle.channel_rules.specs.PrefixMap.{no_known, Met, Bounded, together_in, formed_by, formed_of};
@@ -15,23 +15,23 @@ fn side_of(chunk_side: usize, step: usize) -> usize
     chunk_side.div_ceil(step.max(1))
 }
 
-// Takes in all channels: lists what is kept of each, and their prefixes.
+// Takes in all channels: lists what is kept of each, and their prefixes. The room of the lists is demanded and is no type's matter: a type with a room of its own would turn down lists that are taken here.
 pub fn list_channels(
     infos: &mut Vec<ChannelInfo>,
     known: &mut Vec<KnownPrefix>,
-    chunk: &SoundChunk<'_>,
+    sound: &SoundChunk<'_>,
 )
     requires empty { (infos.old.items ≡ []) × (known.old.items ≡ []) }
-    requires room { (length chunk.now.records.channels.now ≤ vec_capacity infos.old) × (length chunk.now.records.channels.now ≤ vec_capacity known.old) }
-    ensures items { infos.new.items ≡ map (info_in chunk.now.records.text.now chunk.now.records.rules.now chunk.now.records.rectangle) chunk.now.records.channels.now }
-    ensures met { Met chunk.now.records.text.now chunk.now.records.channels.now chunk.now.records.rules.now (length chunk.now.records.channels.now) known.new.items }
-    ensures short { vec_len known.new ≤ length chunk.now.records.channels.now }
+    requires room { (length sound.now.chunk.channels.now ≤ vec_capacity infos.old) × (length sound.now.chunk.channels.now ≤ vec_capacity known.old) }
+    ensures items { infos.new.items ≡ map (info_in sound.now.chunk.text.now sound.now.chunk.rules.now sound.now.chunk.rectangle) sound.now.chunk.channels.now }
+    ensures met { Met sound.now.chunk.text.now sound.now.chunk.channels.now sound.now.chunk.rules.now (length sound.now.chunk.channels.now) known.new.items }
+    ensures short { vec_len known.new ≤ length sound.now.chunk.channels.now }
     ensures capacity { (vec_capacity infos.new ≡ vec_capacity infos.old) × (vec_capacity known.new ≡ vec_capacity known.old) }
 {
-    let rectangle = chunk.records.rectangle;
-    for (index, channel) in chunk.records.channels.iter().enumerate() {
+    let rectangle = sound.chunk.rectangle;
+    for (index, channel) in sound.chunk.channels.iter().enumerate() {
         infos.push_reserved(ChannelInfo {
-            scheme: meet(chunk, index, known),
+            scheme: meet(sound, index, known),
             width: side_of(rectangle.width, channel.x_sampling),
             height: side_of(rectangle.height, channel.y_sampling),
             sample_type: channel.sample_type,

@@ -1,5 +1,5 @@
 // A channel's name: all up to its last dot is the prefix, what follows is the suffix.
-ghost use Rattle.std.specs.Prelude.{◌≡◌};
+ghost use Rattle.std.specs.Prelude.{◌≡◌, MatchOption};
 ghost use Rattle.channel_rules.specs.Names.{Inside, Splits, bytes, cut, prefix_in, suffix_in};
 
 use crate::records::{ChannelDescription, Part};
@@ -15,6 +15,13 @@ fn prefix_len(name: &[u8]) -> usize
 }
 
 impl Part {
+    // Its bytes, if it lies in the text.
+    pub fn get<'a>(&self, text: &'a [u8]) -> Option<&'a [u8]>
+        ensures { MatchOption result (Inside text.now self.now → ⊥) (λ b. Inside text.now self.now × (b.now ≡ bytes text.now self.now)) }
+    {
+        text.get(self.start..)?.get(..self.len)
+    }
+
     pub(crate) fn of<'a>(&self, text: &'a [u8]) -> &'a [u8]
         requires { Inside text.now self.now }
         ensures value { result.now ≡ bytes text.now self.now }

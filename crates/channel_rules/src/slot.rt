@@ -2,7 +2,7 @@
 ghost use Rattle.channel_rules.specs.Slots.{Decodes};
 
 // A slot, by the colour that is in it once the triplet is turned back.
-#[derive(Clone, Copy, PartialEq, Eq)]
+#[derive(Clone, Copy, Debug, PartialEq, Eq)]
 pub enum Slot {
     R,
     G,
@@ -10,20 +10,20 @@ pub enum Slot {
 }
 
 // A number that no slot has.
-#[derive(Clone, Copy, PartialEq, Eq)]
-pub struct NoSuchSlot(pub usize);
+#[derive(Clone, Copy, Debug, PartialEq, Eq)]
+pub struct NotASlot(pub usize);
 
 impl TryFrom<usize> for Slot {
-    type Error = NoSuchSlot;
+    type Error = NotASlot;
 
     ghost try_from_gives = { Decodes };
 
-    fn try_from(number: usize) -> Result<Slot, NoSuchSlot> {
+    fn try_from(number: usize) -> Result<Slot, NotASlot> {
         match number {
             0 => Ok(Slot::R),
             1 => Ok(Slot::G),
             2 => Ok(Slot::B),
-            _ => Err(NoSuchSlot(number)),
+            _ => Err(NotASlot(number)),
         }
     }
 }

@@ -2,7 +2,6 @@ mod Tables
 pub mod HexPairs
 mod Numerals
 mod Letters
-mod Added
 mod Cutting
 pub mod StreamWords
 mod Runs

@@ -59,6 +59,7 @@ impl Field for Option<usize> {
     }
 }
 
+// This impl and the next differ in the table, the fault and the relation: nothing is left to share.
 impl Field for SampleType {
     ghost value_in = { λ field. found UnknownSampleType (meant types field) };
 

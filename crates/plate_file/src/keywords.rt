@@ -45,6 +45,7 @@ fn meant<T: Copy>(table: &[(&[u8], T)], field: &[u8]) -> Option<T>
         .map(|(_, means)| *means)
 }
 
+// The next three each say a relation of their own, which a generic function could not name.
 pub(crate) fn keyword_of(field: &[u8]) -> Option<Keyword>
     ensures word { LineWord field.now result }
     ensures exact { result ≡ meant keywords field.now }

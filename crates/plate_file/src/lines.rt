@@ -28,10 +28,9 @@ impl Reader<'_> {
         ensures value { IfOk result (FlagIn (field_in (unread self.entry)) word.now) }
         ensures exact { result ≡ flag_next word.now (unread self.entry) }
     {
-        let field = self.field();
-        if field.is_empty() {
+        let Some(field) = self.next_field() else {
             return Ok(false);
-        }
+        };
         if field != word {
             return Err(Problem::ExtraField);
         }

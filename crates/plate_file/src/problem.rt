@@ -8,7 +8,7 @@ use crate::numbers::NumberFault;
 use std::alloc::{AllocError, AllocFailed};
 use std::fmt;
 
-#[derive(Clone, Copy, Debug)]
+#[derive(Clone, Copy, Debug, PartialEq, Eq)]
 pub enum Problem {
     NotAPlate,
     UnknownWord,
@@ -94,7 +94,7 @@ impl From<NumberFault> for Problem {
 }
 
 // The first fault of a file, and the line that it stands on, counted from 1.
-#[derive(Clone, Copy, Debug)]
+#[derive(Clone, Copy, Debug, PartialEq, Eq)]
 pub struct Malformed {
     pub line: usize,
     pub problem: Problem,

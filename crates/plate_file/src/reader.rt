@@ -98,9 +98,9 @@ impl<'a> Reader<'a> {
     pub(crate) fn end_line(mut self, problem: Problem) -> Result<(), Problem>
         ensures { result ≡ ended problem (field_in (unread self.entry)) }
     {
-        match self.field() {
-            [] => Ok(()),
-            _ => Err(problem),
+        match self.next_field() {
+            None => Ok(()),
+            Some(_) => Err(problem),
         }
     }
 }

@@ -15,7 +15,7 @@ use std::alloc::Global;
 fn is_idle(line: &[u8]) -> bool
     ensures { result ≡ is_idle line.now }
 {
-    line.starts_with(b"#") || Reader { left: line }.field().is_empty()
+    line.starts_with(b"#") || Reader { left: line }.next_field().is_none()
 }
 
 // Behind the word `dc`.
@@ -65,6 +65,7 @@ fn stream_line(
     }
     let mut reader = Reader { left: line };
     if to_come > 0 {
+        // Only the list that grows is another.
         let left = match stream {
             StreamKind::Dc => reader.add_words(&mut plate.dc, to_come)?,
             StreamKind::Ac => reader.add_words(&mut plate.ac, to_come)?,

@@ -1,6 +1,5 @@
 // `plates roll`: the roll of each plate.
 use anyhow::anyhow;
-use channel_rules::ChannelDescription;
 use plate_file::{Malformed, Plate, Quoted, parse_plate};
 use roll::{Refusal, Roll, classify_channels};
 use std::env::Args;
@@ -63,7 +62,8 @@ fn print_roll(rt: &HostRuntime, plate: &Plate, roll: &Roll) -> io::Result<()> {
 fn print_channels(rt: &HostRuntime, plate: &Plate, roll: &Roll) -> io::Result<()> {
     let chunk = plate.chunk();
     for (i, (channel, info)) in chunk.channels.iter().zip(roll.channels()).enumerate() {
-        let name = Quoted(name_of(chunk.text, channel));
+        // A plate's names lie in its text.
+        let name = Quoted(channel.name.get(chunk.text).unwrap_or(&[]));
         println!(rt;
             "channel {i} {name} {} {} {}x{}",
             info.sample_type, info.scheme, info.width, info.height
@@ -72,25 +72,18 @@ fn print_channels(rt: &HostRuntime, plate: &Plate, roll: &Roll) -> io::Result<()
     Ok(())
 }
 
-fn name_of<'a>(text: &'a [u8], channel: &ChannelDescription) -> &'a [u8] {
-    text.get(channel.name.start..)
-        .and_then(|rest| rest.get(..channel.name.len))
-        .unwrap_or(&[])
-}
-
 fn print_units(rt: &HostRuntime, roll: &Roll) -> io::Result<()> {
-    for (k, unit) in (0..unit_count(roll))
-        .filter_map(|k| unit_at(roll, k))
-        .enumerate()
-    {
-        println!(rt;
-            "unit {k} {} size {}x{} blocks {}x{}",
-            unit.channels,
-            unit.width,
-            unit.height,
-            unit.blocks_wide(),
-            unit.blocks_high()
-        )?;
+    for k in 0..unit_count(roll) {
+        if let Some(unit) = unit_at(roll, k) {
+            println!(rt;
+                "unit {k} {} size {}x{} blocks {}x{}",
+                unit.channels,
+                unit.width,
+                unit.height,
+                unit.blocks_wide(),
+                unit.blocks_high()
+            )?;
+        }
     }
     Ok(())
 }

@@ -39,16 +39,16 @@ record Formed (test : ℕ → ℕ → ℕ → Bool) (a b c : Option ℕ) (t : Tr
   passes : test t.r t.g t.b ≡ true
 
 formed : (test : ℕ → ℕ → ℕ → Bool) (a b c : Option ℕ) (t : Triplet) → three test a b c ≡ Some t → Formed test a b c t
-formed test None b c t e = absurd (let z : ◌≡◌ {A = ℕ} 0 1 = cc in let y : ⊥ = omega arith in y)
-formed test (Some i) None c t e = absurd (let z : ◌≡◌ {A = ℕ} 0 1 = cc in let y : ⊥ = omega arith in y)
-formed test (Some i) (Some j) None t e = absurd (let z : ◌≡◌ {A = ℕ} 0 1 = cc in let y : ⊥ = omega arith in y)
+formed test None b c t e = absurd cc
+formed test (Some i) None c t e = absurd cc
+formed test (Some i) (Some j) None t e = absurd cc
 formed test (Some i) (Some j) (Some k) t e = at (test i j k) refl e
   where
     at : (b : Bool) → test i j k ≡ b → cond b (Some (record { r = i; g = j; b = k })) None ≡ Some t → Formed test (Some i) (Some j) (Some k) t
     at true p q =
         let s : record { r = i; g = j; b = k } ≡ t = cc in
         subst (Formed test (Some i) (Some j) (Some k)) s (record { first = refl; second = refl; third = refl; passes = p })
-    at false p q = absurd (let z : ◌≡◌ {A = ℕ} 0 1 = cc in let y : ⊥ = omega arith in y)
+    at false p q = absurd cc
 
 module _ (text : List ℕ) (chs : List ChannelDescription) (rules : List Rule) where
   abbrev goes : ℕ → ℕ → ℕ → Bool

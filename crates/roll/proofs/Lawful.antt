@@ -3,7 +3,8 @@ use Rattle.std.proofs.Common.{◌≡◌, ℕ, zero, suc, ◌+◌, ◌*◌, ◌/�
 use native.Mathlib.Nat.{div-add-mod, le-max_right}
 use Rattle.std.specs.Char.{to_ascii_lowercase}
 use Rattle.std.specs.List.{AllByRecursion as All, list_any}
-use Rattle.std.proofs.lemmas.List.Folds.{list_any_at}
+use Rattle.std.proofs.lemmas.List.{get_or_default}
+use Rattle.std.proofs.lemmas.List.Folds.{Any-from_list_any, list_any_at}
 use Rattle.std.specs.Str.{bytes_eq}
 use Rattle.std.proofs.ByRecursion.{All-weaker, kept_by_passes}
 use Rattle.std.proofs.lemmas.Slice.Eq.{bytes_eq-Decides}
@@ -43,20 +44,20 @@ module _ (b : ℕ) (bs : List ℕ) where
       record {
         within = omega arith;
         plain = later 0 (subst (λ m. (k : ℕ) → m ≤ k → k < length bs → get_or bs k 0 ≡ 46 → ⊥) z h.plain);
-        dotted = dots 0 (λ _. true-eqb b 46 (sym q)) (λ k e. absurd (let w : ⊥ = omega arith in w));
+        dotted = dots 0 (λ _. true-eqb b 46 (sym q)) (λ k e. absurd (omega arith));
       }
   split_more n true false p q h =
       let z : n ≡ 0 = true-eqb n 0 (sym p) in
       record {
         within = omega arith;
         plain = all (λ e. nope (eqb b 46) (eq-eqb b 46 e) q) (subst (λ m. (k : ℕ) → m ≤ k → k < length bs → get_or bs k 0 ≡ 46 → ⊥) z h.plain);
-        dotted = λ k e. absurd (let w : ⊥ = omega arith in w);
+        dotted = λ k e. absurd (omega arith);
       }
   split_more n false y p q h =
       record { within = omega (arith, h.within); plain = later n h.plain; dotted = dots n (λ z. absurd (nope (eqb n 0) (eq-eqb n 0 z) p)) h.dotted }
 
 splits : (name : List ℕ) → Splits name (cut name)
-splits [] = record { within = omega arith; plain = λ k l u e. absurd (let z : ⊥ = omega arith in z); dotted = λ k e. absurd (let z : ⊥ = omega arith in z) }
+splits [] = record { within = omega arith; plain = λ k l u e. absurd (omega arith); dotted = λ k e. absurd (omega arith) }
 splits (b ∷ bs) = split_more b bs (cut bs) (eqb (cut bs) 0) (eqb b 46) refl refl (splits bs)
 
 -- matching
@@ -68,13 +69,13 @@ unlike n = ((λ e. absurd (nope false e refl)), (λ h. absurd (n h)))
 
 same_type-law : (t u : SampleType) → Decides (same_type t u) (t ≡ u)
 same_type-law U32 U32 = alike refl
-same_type-law U32 F16 = unlike (λ e. let z : ◌≡◌ {A = ℕ} 0 1 = cc in omega arith)
-same_type-law U32 F32 = unlike (λ e. let z : ◌≡◌ {A = ℕ} 0 1 = cc in omega arith)
-same_type-law F16 U32 = unlike (λ e. let z : ◌≡◌ {A = ℕ} 0 1 = cc in omega arith)
+same_type-law U32 F16 = unlike (λ e. cc)
+same_type-law U32 F32 = unlike (λ e. cc)
+same_type-law F16 U32 = unlike (λ e. cc)
 same_type-law F16 F16 = alike refl
-same_type-law F16 F32 = unlike (λ e. let z : ◌≡◌ {A = ℕ} 0 1 = cc in omega arith)
-same_type-law F32 U32 = unlike (λ e. let z : ◌≡◌ {A = ℕ} 0 1 = cc in omega arith)
-same_type-law F32 F16 = unlike (λ e. let z : ◌≡◌ {A = ℕ} 0 1 = cc in omega arith)
+same_type-law F16 F32 = unlike (λ e. cc)
+same_type-law F32 U32 = unlike (λ e. cc)
+same_type-law F32 F16 = unlike (λ e. cc)
 same_type-law F32 F32 = alike refl
 
 same_name-law : (ignore : Bool) (a b : List ℕ) → Decides (same_name ignore a b) (cond ignore (map to_ascii_lowercase a ≡ map to_ascii_lowercase b) (a ≡ b))
@@ -92,16 +93,12 @@ last_decided n P Q f g None l = λ i h q. l i h (g i q)
 last_decided n P Q f g (Some k) l = (l.0, f k l.1, λ i h u q. l.2 i h u (g i q))
 
 list_any-index : {X : Type 0} (test : X → Bool) (xs : List X) (d : X) → list_any test xs ≡ true → (k : ℕ) × (k < length xs) × (test (get_or xs k d) ≡ true)
-list_any-index test [] d e = absurd (nope false e refl)
-list_any-index test (x ∷ xs) d e = at (test x) refl e (list_any-index test xs d)
-  where
-    at : (b : Bool) → test x ≡ b → (b || list_any test xs) ≡ true → (list_any test xs ≡ true → (k : ℕ) × (k < length xs) × (test (get_or xs k d) ≡ true))
-        → (k : ℕ) × (k < length (x ∷ xs)) × (test (get_or (x ∷ xs) k d) ≡ true)
-    at true p q h = (0, omega arith, p)
-    at false p q h = let r = h q in (suc r.0, omega (arith, r.1), r.2)
+list_any-index test xs d e =
+    let m = Any-from_list_any test xs e in
+    (m.0, m.2, ap test (get_or_default xs m.0 d m.1 m.2 ∙ m.3) ∙ m.4)
 
 slot_decides : (slot : ℕ) (o : Option ℕ) → Decides (is_slot slot o) (o ≡ Some slot)
-slot_decides slot None = unlike (λ e. let z : ◌≡◌ {A = ℕ} 0 1 = cc in omega arith)
+slot_decides slot None = unlike (λ e. cc)
 slot_decides slot (Some own) = ((λ e. ap Some (true-eqb own slot (sym e))), (λ e. eq-eqb own slot (let z : own ≡ slot = cc in z)))
 
 module _ (text : List ℕ) (rules : List Rule) (prefix : List ℕ) (slot : ℕ) (c : ChannelDescription) where

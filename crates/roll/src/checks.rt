@@ -1,18 +1,24 @@
-// What is turned down before any name is looked at.
+// What a chunk is turned down for.
 ghost use Rattle.std.specs.Prelude.{◌≡◌, length, slice_index_or, Decides, IfOk};
 ghost use Rattle.channel_rules.specs.Picks.{FirstAt};
 ghost use Rattle.channel_rules.specs.Triplets.{no_channel, no_rule};
 ghost use Rattle.roll.specs.Refusals.{Outside, LongStep, OddSlot, Multiple, Astray, JudgedRecords, Twice, Doubled};
 
 use crate::refusal::{Concerned, Refusal};
+use crate::roll::MOST_CHANNELS;
 use channel_rules::{
     ChannelDescription, Chunk, IntegerBounds, Part, Rule, Slot, SoundChunk, Triplet,
 };
 
+const MOST_RULES: usize = 64;
+
+// No side of a chunk is longer, and no sampling step.
+const LARGEST: usize = 8192;
+
 fn is_outside(text: &[u8], part: &Part) -> bool
     ensures { Decides result (Outside text.now part.now) }
 {
-    part.start > text.len() || part.len > text.len() - part.start || part.len > 255
+    part.get(text).is_none() || part.len > 255
 }
 
 fn outside_name(chunk: &Chunk<'_>) -> Option<usize>
@@ -36,7 +42,7 @@ fn outside_suffix(chunk: &Chunk<'_>) -> Option<usize>
 fn has_long_step(channel: &ChannelDescription) -> bool
     ensures { Decides result (LongStep channel.now) }
 {
-    channel.x_sampling > 8192 || channel.y_sampling > 8192
+    channel.x_sampling > LARGEST || channel.y_sampling > LARGEST
 }
 
 fn long_step(chunk: &Chunk<'_>) -> Option<usize>
@@ -62,7 +68,7 @@ fn odd_slot(chunk: &Chunk<'_>) -> Option<usize>
 fn is_multiple(place: i32, step: usize) -> bool
     ensures { Decides result (Multiple place step) }
 {
-    place.unsigned_abs() as usize % step.max(1) == 0
+    (place.unsigned_abs() as usize).is_multiple_of(step.max(1))
 }
 
 fn is_astray(rectangle: &IntegerBounds, channel: &ChannelDescription) -> bool
@@ -84,13 +90,13 @@ fn astray(chunk: &Chunk<'_>) -> Option<usize>
 // Refusals 1 to 6, in their order. A chunk that passes is sound.
 pub(crate) fn check_records<'a>(chunk: &Chunk<'a>) -> Result<SoundChunk<'a>, Refusal>
     ensures answer { JudgedRecords chunk.now.text.now chunk.now.channels.now chunk.now.rules.now chunk.now.rectangle result }
-    ensures same { IfOk result (λ sound. sound.records ≡ chunk.now) }
+    ensures same { IfOk result (λ sound. sound.chunk ≡ chunk.now) }
 {
     let rectangle = chunk.rectangle;
-    if chunk.channels.len() > 64 || chunk.rules.len() > 64 {
+    if chunk.channels.len() > MOST_CHANNELS || chunk.rules.len() > MOST_RULES {
         return Err(Refusal::TooMany);
     }
-    if rectangle.width > 8192 || rectangle.height > 8192 {
+    if rectangle.width > LARGEST || rectangle.height > LARGEST {
         return Err(Refusal::ChunkTooLarge);
     }
     if let Some(index) = outside_name(chunk) {
@@ -108,7 +114,7 @@ pub(crate) fn check_records<'a>(chunk: &Chunk<'a>) -> Result<SoundChunk<'a>, Ref
     if let Some(index) = astray(chunk) {
         return Err(Refusal::OffStep(index));
     }
-    Ok(SoundChunk { records: *chunk })
+    Ok(SoundChunk { chunk: *chunk })
 }
 
 fn is_twice(triplet: &Triplet, index: usize) -> bool

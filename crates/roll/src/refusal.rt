@@ -6,13 +6,13 @@ ghost use Rattle.roll.specs.Shown.{concerned_text, reason_text, refusal_text};
 use std::fmt;
 
 // The channel or the rule that a refusal is about, by its place in the list.
-#[derive(Clone, Copy, Debug)]
+#[derive(Clone, Copy, Debug, PartialEq, Eq)]
 pub enum Concerned {
     Channel(usize),
     Rule(usize),
 }
 
-#[derive(Clone, Copy, Debug)]
+#[derive(Clone, Copy, Debug, PartialEq, Eq)]
 pub enum Refusal {
     TooMany,
     ChunkTooLarge,
@@ -69,6 +69,7 @@ impl Refusal {
     }
 }
 
+// Written out and not derived: the text of a derived one stands in no contract.
 impl fmt::Display for Concerned {
     ghost output = { λ whom. Some (concerned_text whom) };
 

@@ -1,4 +1,4 @@
-// The roll: what is kept of the channels, and the triplets. Its memory is obtained once.
+// The roll: what is kept of the channels, and the triplets. Its memory is obtained once; in the roll itself, as arrays, it would be some kilobytes on the stack.
 ghost use Rattle.std.specs.Prelude.{◌≡◌, ◌≤◌, [], length, IfOk, vec_capacity};
 ghost use Rattle.roll.specs.Kept.{Sides, Members, Apart};
 

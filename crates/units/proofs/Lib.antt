@@ -1,2 +1,1 @@
-mod EndToEnd
 mod Ordered

@@ -49,7 +49,6 @@ pub fn unit_count(roll: &Roll) -> usize
 }
 
 // The channels of the unit at a place in the order.
-#[tactic(auto, using(crate::proofs::Ordered::lone_at))]
 fn channels_at(roll: &Roll, index: usize) -> Option<UnitChannels>
     ensures value { result ≡ slice_get (units_in roll.now.channels.items roll.now.triplets.items) index }
     ensures within { IfSome result (λ channels. leading channels < length roll.now.channels.items) }

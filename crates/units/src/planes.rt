@@ -28,7 +28,6 @@ fn samples_of(infos: &[ChannelInfo]) -> usize
 }
 
 // Where the plane of a lossy channel begins; None where the channel has no plane.
-#[tactic(auto, using(crate::proofs::EndToEnd::plane_at))]
 pub fn plane_start(roll: &Roll, channel: usize) -> Option<usize>
     ensures { PlaneAt roll.now.channels.items channel result }
 {

@@ -5,7 +5,7 @@ use Rattle.channel_rules.proofs.listing.list_channels.Given as goal
 
 abbrev pub invariant-loop-index : goal.invariant-loop-index
 invariant-loop-index l =
-    (vec_items l.infos ≡ map (info_in l.chunk.records.text.now l.chunk.records.rules.now l.chunk.records.rectangle) (take l.index l.chunk.records.channels.now))
+    (vec_items l.infos ≡ map (info_in l.sound.chunk.text.now l.sound.chunk.rules.now l.sound.chunk.rectangle) (take l.index l.sound.chunk.channels.now))
     × (vec_len l.infos ≡ l.index) × (vec_capacity l.infos ≡ vec_capacity l.initial.infos)
-    × Met l.chunk.records.text.now l.chunk.records.channels.now l.chunk.records.rules.now l.index (vec_items l.known)
-    × (vec_len l.known ≤ l.index) × (vec_capacity l.known ≡ vec_capacity l.initial.known) × (l.rectangle ≡ l.chunk.records.rectangle)
+    × Met l.sound.chunk.text.now l.sound.chunk.channels.now l.sound.chunk.rules.now l.index (vec_items l.known)
+    × (vec_len l.known ≤ l.index) × (vec_capacity l.known ≡ vec_capacity l.initial.known) × (l.rectangle ≡ l.sound.chunk.rectangle)

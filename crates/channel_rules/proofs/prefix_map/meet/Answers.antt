@@ -1,4 +1,4 @@
-use Rattle.std.proofs.Common.{◌≡◌, ℕ, ◌+◌, List, [], ◌∷◌, ◌++◌, length, get_or, set, Some, None, vec_items, Option, sym, ap, ◌∙◌, subst}
+use Rattle.std.proofs.Common.{rules as std_rules, ◌≡◌, ℕ, ◌+◌, List, [], ◌∷◌, ◌++◌, length, get_or, set, Some, None, vec_items, Option, sym, ap, ◌∙◌, subst}
 use Rattle.std.proofs.lemmas.List.{get_or_read}
 use Rattle.channel_rules.specs.Picks.{FirstAt}
 use Rattle.channel_rules.specs.Triplets.{no_channel}
@@ -18,9 +18,9 @@ said text chs o {ks} {ls} {p} {q} e f h =
 
 pub returns-in-Some-clause-met : goal.returns-in-Some-clause-met
 returns-in-Some-clause-met c =
-    let text = c.args.chunk.now.records.text.now in
-    let chs = c.args.chunk.now.records.channels.now in
-    let rules = c.args.chunk.now.records.rules.now in
+    let text = c.args.sound.now.chunk.text.now in
+    let chs = c.args.sound.now.chunk.channels.now in
+    let rules = c.args.sound.now.chunk.rules.now in
     let ks = vec_items c.args.known.now in
     let at = c.in-Some.place in
     let own = get_or chs c.args.index no_channel in
@@ -39,15 +39,17 @@ returns-in-Some-clause-met c =
 
 pub returns-in-None-clause-met : goal.returns-in-None-clause-met
 returns-in-None-clause-met c =
-    let text = c.args.chunk.now.records.text.now in
-    let chs = c.args.chunk.now.records.channels.now in
-    let rules = c.args.chunk.now.records.rules.now in
+    let text = c.args.sound.now.chunk.text.now in
+    let chs = c.args.sound.now.chunk.channels.now in
+    let rules = c.args.sound.now.chunk.rules.now in
     let ks = vec_items c.args.known.now in
     let own = get_or chs c.args.index no_channel in
     let nowhere = said text chs None c.as_slice.ensures.value c.split_name.ensures.prefix c.in-None.ensures in
     let new : KnownPrefix = record { first = c.args.index; slots = stamped text rules own c.args.index no_slots } in
+    let free : c.default-slots.result ≡ no_slots = search std_rules in
     let n : record { first = c.args.index; slots = c.apply_rules-scheme.new.slots } ≡ new =
-    ap (λ (x : Slots). record { first = c.args.index; slots = x }) c.apply_rules-scheme.ensures.slots in
+    ap (λ (x : Slots). record { first = c.args.index; slots = x }) c.apply_rules-scheme.ensures.slots ∙
+    ap (λ (x : Slots). record { first = c.args.index; slots = stamped text rules own c.args.index x }) free in
     let done : Met text chs rules (c.args.index + 1) (ks ++ new ∷ []) = record {
       firsts = firsts_push (length chs) ks new c.requires.met.firsts c.requires.within;
       views = met_new text chs rules c.args.index c.requires.within ks c.requires.met.views nowhere;
