@@ -1,8 +1,10 @@
 // A channel's name: all up to its last dot is the prefix, what follows is the suffix.
-ghost use Rattle.std.specs.Prelude.{◌≡◌, MatchOption};
+ghost use Rattle.std.specs.Prelude.{◌≡◌, ◌<◌, length, slice_index_or, MatchOption};
 ghost use Rattle.channel_rules.specs.Names.{Inside, Splits, bytes, cut, prefix_in, suffix_in};
+ghost use Rattle.channel_rules.specs.Triplets.{no_channel};
 
-use crate::records::{ChannelDescription, Part};
+use crate::records::Part;
+use crate::sound::SoundChunk;
 
 // How many bytes of a name stand up to its last dot, that included.
 fn prefix_len(name: &[u8]) -> usize
@@ -30,14 +32,14 @@ impl Part {
     }
 }
 
-impl ChannelDescription {
-    // The prefix of its name, and the suffix.
-    pub(crate) fn split_name<'a>(&self, text: &'a [u8]) -> (&'a [u8], &'a [u8])
-        requires { Inside text.now self.now.name }
-        ensures prefix { result.0.now ≡ prefix_in text.now self.now }
-        ensures suffix { result.1.now ≡ suffix_in text.now self.now }
+impl<'a> SoundChunk<'a> {
+    // The prefix of a channel's name, and the suffix.
+    pub(crate) fn split_name(&self, index: usize) -> (&'a [u8], &'a [u8])
+        requires { index < length self.now.chunk.channels.now }
+        ensures prefix { result.0.now ≡ prefix_in self.now.chunk.text.now (slice_index_or self.now.chunk.channels.now index no_channel) }
+        ensures suffix { result.1.now ≡ suffix_in self.now.chunk.text.now (slice_index_or self.now.chunk.channels.now index no_channel) }
     {
-        let name = self.name.of(text);
+        let name = self.chunk.channels[index].name.of(self.chunk.text);
         name.split_at(prefix_len(name))
     }
 }

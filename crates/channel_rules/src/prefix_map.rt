@@ -53,11 +53,11 @@ fn apply_rules(sound: &SoundChunk<'_>, index: usize, slots: &mut Slots) -> Compr
     ensures scheme { result ≡ scheme_in sound.now.chunk.text.now sound.now.chunk.rules.now (slice_index_or sound.now.chunk.channels.now index no_channel) }
     ensures slots { slots.new ≡ stamped sound.now.chunk.text.now sound.now.chunk.rules.now (slice_index_or sound.now.chunk.channels.now index no_channel) index slots.old }
 {
-    let channel = &sound.chunk.channels[index];
-    let (_, suffix) = channel.split_name(sound.chunk.text);
+    let sample_type = sound.chunk.channels[index].sample_type;
+    let (_, suffix) = sound.split_name(index);
     let mut scheme = CompressorScheme::Unknown;
     for rule in sound.chunk.rules {
-        if rule.matches(sound.chunk.text, suffix, channel.sample_type) {
+        if rule.matches(sound.chunk.text, suffix, sample_type) {
             apply_rule(rule, index, &mut scheme, slots);
         }
     }
@@ -70,7 +70,7 @@ impl<'a> SoundChunk<'a> {
         requires { met.now.first < length self.now.chunk.channels.now }
         ensures { result.now ≡ known_bytes self.now.chunk.text.now self.now.chunk.channels.now met.now }
     {
-        let (prefix, _) = self.chunk.channels[met.first].split_name(self.chunk.text);
+        let (prefix, _) = self.split_name(met.first);
         prefix
     }
 }
@@ -100,7 +100,7 @@ pub(crate) fn meet(
     ensures short { vec_len known.new ≤ index + 1 }
     ensures capacity { vec_capacity known.new ≡ vec_capacity known.old }
 {
-    let (prefix, _) = sound.chunk.channels[index].split_name(sound.chunk.text);
+    let (prefix, _) = sound.split_name(index);
     match place_of(sound, known.as_slice(), prefix) {
         Some(place) => apply_rules(sound, index, &mut known[place].slots),
         None => {
