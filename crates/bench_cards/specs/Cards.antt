@@ -24,7 +24,7 @@ rule at slot = record { suffix = record { start = at; len = 1 }; scheme = LossyD
 abbrev pub rules : List Rule
 rules = rule 2 0 ∷ rule 1 1 ∷ rule 0 2 ∷ []
 
--- B, G and R with equal x steps, and with x steps 0, 1, 1
+-- B, G and R with equal x steps
 abbrev pub equal_steps : List ChannelDescription
 equal_steps = channel 0 1 ∷ channel 1 1 ∷ channel 2 1 ∷ []
 
