@@ -42,11 +42,12 @@ impl Header {
         ensures { Says (with_channel (heading self) (unread reader.entry)) result }
     {
         let Records {
-            mut text,
+            text,
             mut channels,
             rules,
         } = self.records;
-        channels.push(reader.named(&mut text)?)?;
+        let (channel, text) = reader.named(text)?;
+        channels.push(channel)?;
         let records = Records {
             text,
             channels,
@@ -60,11 +61,12 @@ impl Header {
         ensures { Says (with_rule (heading self) (unread reader.entry)) result }
     {
         let Records {
-            mut text,
+            text,
             channels,
             mut rules,
         } = self.records;
-        rules.push(reader.named(&mut text)?)?;
+        let (rule, text) = reader.named(text)?;
+        rules.push(rule)?;
         let records = Records {
             text,
             channels,

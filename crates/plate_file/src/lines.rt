@@ -55,13 +55,13 @@ impl Reader<'_> {
         })
     }
 
-    // Adds the name that stands next to `text`, and reads the record that it names.
-    pub(crate) fn named<T: Record>(mut self, text: &mut Vec<u8>) -> Result<T, Problem>
-        ensures inside { IfOk result (λ it. Inside text.new.items (T.part it)) }
-        ensures exact { MatchResult result (BehindName T.record_in (unread self.entry) text.old.items text.new.items) (Fault (named_in T.record_in text.old.items (unread self.entry))) }
+    // The record that a line writes behind its name, and the text with that name behind it.
+    pub(crate) fn named<T: Record>(self, text: Vec<u8>) -> Result<(T, Vec<u8>), Problem>
+        ensures inside { IfOk result (λ found. Inside found.1.items (T.part found.0)) }
+        ensures exact { MatchResult result (λ found. BehindName T.record_in (unread self.entry) text.items found.1.items found.0) (Fault (named_in T.record_in text.items (unread self.entry))) }
     {
-        let name = self.quoted(text)?;
-        T::behind_name(self, name)
+        let (name, text, reader) = self.quoted(text)?;
+        Ok((T::behind_name(reader, name)?, text))
     }
 }
 

@@ -1,5 +1,5 @@
 // Names and suffixes: bytes in quotes.
-ghost use Rattle.std.specs.Prelude.{◌≡◌, ◌<◌, ◌++◌, length, drop, IfSome, Some, Ok, Err, MatchResult, OnOk};
+ghost use Rattle.std.specs.Prelude.{◌≡◌, ◌<◌, ◌++◌, length, drop, IfSome, Some, Ok, Err, MatchResult, IfOk};
 ghost use Rattle.std.specs.Option.{option_map};
 ghost use Rattle.plate_file.specs.Reading.{unread};
 ghost use Rattle.plate_file.specs.Quoted.{is_plain, escape_in, letter_in, letter_size, letters_in, written_in, name_in, after_name, Opens, NameAdded};
@@ -47,8 +47,8 @@ fn letter(bytes: &[u8]) -> Option<(u8, &[u8])>
 
 // Adds the bytes that `written` stands for to `text`. A `while`, since an iterator of letters would
 // be a type of its own for this one loop.
-fn add_letters(text: &mut Vec<u8>, written: &[u8]) -> Result<(), Problem>
-    ensures { MatchResult result (λ _. option_map (λ name. text.old.items ++ name) (letters_in written.now) ≡ Some text.new.items) (Fault (found Problem.BadName (letters_in written.now))) }
+fn add_letters(mut text: Vec<u8>, written: &[u8]) -> Result<Vec<u8>, Problem>
+    ensures { MatchResult result (λ longer. option_map (λ name. text.items ++ name) (letters_in written.now) ≡ Some longer.items) (Fault (found Problem.BadName (letters_in written.now))) }
 {
     let mut left = written;
     while !left.is_empty() {
@@ -56,54 +56,48 @@ fn add_letters(text: &mut Vec<u8>, written: &[u8]) -> Result<(), Problem>
         text.push(byte)?;
         left = rest;
     }
-    Ok(())
+    Ok(text)
 }
 
 impl<'a> Reader<'a> {
     // Takes the opening quote of the next field.
-    fn open_quote(&mut self) -> Result<(), Problem>
-        ensures { MatchResult result (λ _. Opens (unread self.old) (unread self.new)) (λ problem. written_in (unread self.old) ≡ Err problem) }
+    fn open_quote(mut self) -> Result<Reader<'a>, Problem>
+        ensures { MatchResult result (λ rest. Opens (unread self.entry) (unread rest)) (λ problem. written_in (unread self.entry) ≡ Err problem) }
     {
         self.pass(Run::Blanks);
         match self.left {
             [] => Err(Problem::MissingField),
-            [b'"', rest @ ..] => {
-                self.left = rest;
-                Ok(())
-            }
+            [b'"', left @ ..] => Ok(Reader { left }),
             _ => Err(Problem::BadName),
         }
     }
 
-    // What stands between the quotes of the next field.
-    fn between_quotes(&mut self) -> Result<&'a [u8], Problem>
-        ensures value { MatchResult result (λ written. written_in (unread self.old) ≡ Ok written.now) (λ problem. written_in (unread self.old) ≡ Err problem) }
-        ensures after { OnOk result (unread self.new ≡ after_name (unread self.old)) }
+    // What stands between the quotes of the next field, and what follows them.
+    fn between_quotes(self) -> Result<(&'a [u8], Reader<'a>), Problem>
+        ensures value { MatchResult result (λ found. written_in (unread self.entry) ≡ Ok found.0.now) (λ problem. written_in (unread self.entry) ≡ Err problem) }
+        ensures after { IfOk result (λ found. unread found.1 ≡ after_name (unread self.entry)) }
     {
-        self.open_quote()?;
-        let written = self.pass(Run::Letters);
-        let [_, rest @ ..] = self.left else {
+        let mut reader = self.open_quote()?;
+        let written = reader.pass(Run::Letters);
+        let [_, left @ ..] = reader.left else {
             return Err(Problem::BadName);
         };
-        self.left = rest;
         // The name is a field, so a blank or the line's end follows the quote.
-        if Run::Field.count(rest) > 0 {
+        if Run::Field.count(left) > 0 {
             return Err(Problem::BadName);
         }
-        Ok(written)
+        Ok((written, Reader { left }))
     }
 
-    // Adds the name that stands next to `text`.
-    pub(crate) fn quoted(&mut self, text: &mut Vec<u8>) -> Result<Part, Problem>
-        ensures after { OnOk result (unread self.new ≡ after_name (unread self.old)) }
-        ensures exact { MatchResult result (NameAdded (unread self.old) text.old.items text.new.items) (Fault (name_in (unread self.old))) }
+    // The name that stands next, as a part of the text behind which it is put, and what follows it.
+    pub(crate) fn quoted(self, text: Vec<u8>) -> Result<(Part, Vec<u8>, Reader<'a>), Problem>
+        ensures after { IfOk result (λ found. unread found.2 ≡ after_name (unread self.entry)) }
+        ensures exact { MatchResult result (λ found. NameAdded (unread self.entry) text.items found.1.items found.0) (Fault (name_in (unread self.entry))) }
     {
-        let written = self.between_quotes()?;
+        let (written, reader) = self.between_quotes()?;
         let start = text.len();
-        add_letters(text, written)?;
-        Ok(Part {
-            start,
-            len: text.len() - start,
-        })
+        let text = add_letters(text, written)?;
+        let len = text.len() - start;
+        Ok((Part { start, len }, text, reader))
     }
 }
