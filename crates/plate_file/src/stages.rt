@@ -1,7 +1,8 @@
 // What one line more makes of a draft.
-ghost use Rattle.std.specs.Prelude.{◌≡◌, Ok, Err, MatchResult};
-ghost use Rattle.plate_file.specs.Reading.{unread};
-ghost use Rattle.plate_file.specs.File.{contents, progress, headed, in_stream, is_idle, begun, line_after, Leads, finished};
+ghost use Rattle.std.specs.Prelude.{◌≡◌, ◌==◌, cond, Ok, Err, MatchResult};
+ghost use Rattle.plate_file.specs.Reading.{field_in, after_field, unread};
+ghost use Rattle.plate_file.specs.Words.{meant, keywords};
+ghost use Rattle.plate_file.specs.File.{contents, progress, is_idle, begun, after_heading, behind, more_words, line_after, Leads, finished};
 ghost use Rattle.plate_file.specs.Headings.{heading};
 
 use crate::draft::{Draft, StreamKind};
@@ -34,11 +35,8 @@ fn begin(heap: Global, header: Header, reader: Reader<'_>) -> Result<Draft, Prob
 }
 
 fn heading_line(heap: Global, header: Header, line: &[u8]) -> Result<Draft, Problem>
-    ensures { Leads (line_after (headed (heading header)) line.now) result }
+    ensures { Leads (after_heading (heading header) (meant keywords (field_in line.now)) (after_field line.now)) result }
 {
-    if is_idle(line) {
-        return Ok(Draft::Heading(header));
-    }
     let mut reader = Reader { left: line };
     let header = match keyword_of(reader.field()) {
         Some(Keyword::Rectangle) => header.with_rectangle(reader)?,
@@ -58,11 +56,8 @@ fn stream_line(
     to_come: usize,
     line: &[u8],
 ) -> Result<Draft, Problem>
-    ensures { Leads (line_after (in_stream stream (contents plate) to_come) line.now) result }
+    ensures { Leads (cond (to_come == 0) (behind stream (contents plate) (meant keywords (field_in line.now)) (after_field line.now)) (more_words stream (contents plate) to_come line.now)) result }
 {
-    if is_idle(line) {
-        return Ok(Draft::Words(stream, plate, to_come));
-    }
     let mut reader = Reader { left: line };
     if to_come > 0 {
         // Only the list that grows is another.
@@ -92,6 +87,8 @@ impl Draft {
                 Reader { left: line }.first_line()?;
                 Ok(Draft::Heading(Header::new(heap)))
             }
+            // Passed over before the draft is taken apart, which costs more than the line.
+            idle if is_idle(line) => Ok(idle),
             Draft::Heading(header) => heading_line(heap, header, line),
             Draft::Words(stream, plate, to_come) => stream_line(stream, plate, to_come, line),
         }
