@@ -29,11 +29,13 @@ fn print_plate(rt: &HostRuntime, roll: &mut Roll, name: &str) -> anyhow::Result<
         }
     };
     let answer = answer_of(heap, roll, &plate)?;
+    let dc = weight(plate.dc.as_slice());
+    let ac = weight(plate.ac.as_slice());
+    // Before the next file is read: it can be as large as the plate.
+    drop(plate);
     let expected = fs::read(rt, format!(in heap; "{name}.expected")?)?;
     let equal = answer.is_in(expected.as_slice());
     let word = if equal { "equal" } else { "differs" };
-    let dc = weight(plate.dc.as_slice());
-    let ac = weight(plate.ac.as_slice());
     println!(rt; "{name} {word} dc {dc} ac {ac}")?;
     Ok(equal)
 }
