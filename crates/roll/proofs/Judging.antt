@@ -47,8 +47,8 @@ module _ (text : List ℕ) (chs : List ChannelDescription) (rules : List Rule) (
       few = at_most 64 (length chs) (λ l. h TooMany (lit< tt) (inl l));
       wide = at_most 8192 bounds.width (λ l. h ChunkTooLarge (lit< tt) (inl l));
       high = at_most 8192 bounds.height (λ l. h ChunkTooLarge (lit< tt) (inr l));
-      named = λ i l. inside text (get_or chs i no_channel).name (λ o. h (OutsideText (OfChannel i)) (lit< tt) (l, o));
-      suffixed = λ j l. inside text (get_or rules j no_rule).suffix (λ o. h (OutsideText (OfRule j)) (lit< tt) (l, o));
+      named = λ i l. inside text (get_or chs i no_channel).name (λ o. h (OutsideText (Some (OfChannel i))) (lit< tt) (l, o));
+      suffixed = λ j l. inside text (get_or rules j no_rule).suffix (λ o. h (OutsideText (Some (OfRule j))) (lit< tt) (l, o));
     }
 
     pub accepted : FirstAt (length chs) (Doubled (triplets_in text chs rules)) None → (f : Refusal) → S f → ⊥

@@ -26,7 +26,7 @@ number (HeldTwice channel) = 7
 abbrev pub concerned : Refusal → Option Concerned
 concerned TooMany = None
 concerned ChunkTooLarge = None
-concerned (OutsideText whom) = Some whom
+concerned (OutsideText whom) = whom
 concerned (StepTooLarge channel) = Some (OfChannel channel)
 concerned (NoSuchSlot rule) = Some (OfRule rule)
 concerned (OffStep channel) = Some (OfChannel channel)
@@ -64,8 +64,9 @@ Doubled ts i = (k : ℕ) × (k < length ts) × Twice (slice_index_or ts k no_tri
 abbrev pub Stands : List ℕ → List ChannelDescription → List Rule → IntegerBounds → Refusal → Type 0
 Stands text channels rules bounds TooMany = (64 < length channels) ⊎ (64 < length rules)
 Stands text channels rules bounds ChunkTooLarge = (8192 < bounds.width) ⊎ (8192 < bounds.height)
-Stands text channels rules bounds (OutsideText (OfChannel i)) = (i < length channels) × Outside text (slice_index_or channels i no_channel).name
-Stands text channels rules bounds (OutsideText (OfRule j)) = (j < length rules) × Outside text (slice_index_or rules j no_rule).suffix
+Stands text channels rules bounds (OutsideText None) = ⊥
+Stands text channels rules bounds (OutsideText (Some (OfChannel i))) = (i < length channels) × Outside text (slice_index_or channels i no_channel).name
+Stands text channels rules bounds (OutsideText (Some (OfRule j))) = (j < length rules) × Outside text (slice_index_or rules j no_rule).suffix
 Stands text channels rules bounds (StepTooLarge i) = (i < length channels) × LongStep (slice_index_or channels i no_channel)
 Stands text channels rules bounds (NoSuchSlot j) = (j < length rules) × OddSlot (slice_index_or rules j no_rule)
 Stands text channels rules bounds (OffStep i) = (i < length channels) × Astray bounds (slice_index_or channels i no_channel)

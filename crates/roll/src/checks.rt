@@ -100,10 +100,10 @@ pub(crate) fn check_records<'a>(chunk: &Chunk<'a>) -> Result<SoundChunk<'a>, Ref
         return Err(Refusal::ChunkTooLarge);
     }
     if let Some(index) = outside_name(chunk) {
-        return Err(Refusal::OutsideText(Concerned::Channel(index)));
+        return Err(Refusal::OutsideText(Some(Concerned::Channel(index))));
     }
     if let Some(index) = outside_suffix(chunk) {
-        return Err(Refusal::OutsideText(Concerned::Rule(index)));
+        return Err(Refusal::OutsideText(Some(Concerned::Rule(index))));
     }
     if let Some(index) = long_step(chunk) {
         return Err(Refusal::StepTooLarge(index));

@@ -7,5 +7,5 @@ mod refusal;
 mod roll;
 
 pub use classify::classify_channels;
-pub use refusal::{Concerned, Refusal};
+pub use refusal::{Concerned, Refusal, Whom};
 pub use roll::Roll;

@@ -1,7 +1,7 @@
 // Why a chunk is turned down.
 ghost use Rattle.std.specs.Prelude.{◌≡◌, Some};
 ghost use Rattle.roll.specs.Refusals.{number, concerned};
-ghost use Rattle.roll.specs.Shown.{concerned_text, reason_text, refusal_text};
+ghost use Rattle.roll.specs.Shown.{concerned_text, whom_text, reason_text, refusal_text};
 
 use std::fmt;
 
@@ -12,11 +12,16 @@ pub enum Concerned {
     Rule(usize),
 }
 
+// What `concerned` answers, to be shown: `None` is the chunk as a whole.
+#[derive(Clone, Copy, Debug, PartialEq, Eq)]
+pub struct Whom(pub Option<Concerned>);
+
 #[derive(Clone, Copy, Debug, PartialEq, Eq)]
 pub enum Refusal {
     TooMany,
     ChunkTooLarge,
-    OutsideText(Concerned),
+    // No chunk gets this with `None`.
+    OutsideText(Option<Concerned>),
     StepTooLarge(usize),
     NoSuchSlot(usize),
     OffStep(usize),
@@ -45,7 +50,7 @@ impl Refusal {
     {
         match *self {
             Refusal::TooMany | Refusal::ChunkTooLarge => None,
-            Refusal::OutsideText(whom) => Some(whom),
+            Refusal::OutsideText(whom) => whom,
             Refusal::StepTooLarge(channel) => Some(Concerned::Channel(channel)),
             Refusal::NoSuchSlot(rule) => Some(Concerned::Rule(rule)),
             Refusal::OffStep(channel) => Some(Concerned::Channel(channel)),
@@ -81,15 +86,24 @@ impl fmt::Display for Concerned {
     }
 }
 
+impl fmt::Display for Whom {
+    ghost output = { λ whom. Some (whom_text whom.0) };
+
+    fn fmt<W: fmt::Write>(&self, f: &mut fmt::Formatter<W>) -> fmt::Result {
+        match self.0 {
+            Some(concerned) => write!(f, "{concerned}"),
+            None => f.write_str("the chunk"),
+        }
+    }
+}
+
 impl fmt::Display for Refusal {
     ghost output = { λ refusal. Some (refusal_text refusal) };
 
     fn fmt<W: fmt::Write>(&self, f: &mut fmt::Formatter<W>) -> fmt::Result {
         let number = self.number();
         let why = self.reason();
-        match self.concerned() {
-            Some(whom) => write!(f, "refusal {number}, {whom}: {why}"),
-            None => write!(f, "refusal {number}, the chunk: {why}"),
-        }
+        let whom = Whom(self.concerned());
+        write!(f, "refusal {number}, {whom}: {why}")
     }
 }
