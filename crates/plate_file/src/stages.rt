@@ -34,6 +34,7 @@ fn begin(heap: Global, header: Header, reader: Reader<'_>) -> Result<Draft, Prob
     Ok(Draft::Words(StreamKind::Dc, plate, count))
 }
 
+// A line before the streams. Idle ones do not come here.
 fn heading_line(heap: Global, header: Header, line: &[u8]) -> Result<Draft, Problem>
     ensures { Leads (after_heading (heading header) (meant keywords (field_in line.now)) (after_field line.now)) result }
 {
@@ -49,7 +50,7 @@ fn heading_line(heap: Global, header: Header, line: &[u8]) -> Result<Draft, Prob
     Ok(Draft::Heading(header))
 }
 
-// A line behind the line that begins a stream.
+// A line behind the line that begins a stream. Idle ones do not come here.
 fn stream_line(
     stream: StreamKind,
     mut plate: Plate,
